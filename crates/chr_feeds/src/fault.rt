@@ -1,13 +1,17 @@
 //! Why a feed gave up.
+
+ghost use Rattle.std.specs.Prelude.{◌≡◌};
+ghost use Rattle.chr_feeds.specs.declared.fault.FeedFault.TheVariants.{Disk, Memory};
+
 use std::alloc::AllocError;
 use std::io;
 
-/// After any of them the feed is only read: no clause says that more may be appended.
+/// After `Disk` the feed is only read: no clause says that more may be appended.
 #[derive(Clone, Copy, Debug, PartialEq, Eq)]
 pub enum FeedFault {
     /// The disk refused a call. What was to be appended may be there after a crash, all of it or a front.
     Disk,
-    /// The file is there already.
+    /// The file is not empty, though the disk had said so.
     NotEmpty,
     /// The feed has no room for as much.
     Full,
@@ -16,12 +20,16 @@ pub enum FeedFault {
 }
 
 impl From<io::Error> for FeedFault {
+    ghost from_gives = { λ _ e. e ≡ Disk };
+
     fn from(_error: io::Error) -> FeedFault {
         FeedFault::Disk
     }
 }
 
 impl From<AllocError> for FeedFault {
+    ghost from_gives = { λ _ e. e ≡ Memory };
+
     fn from(_error: AllocError) -> FeedFault {
         FeedFault::Memory
     }

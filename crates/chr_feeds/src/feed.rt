@@ -1,21 +1,16 @@
 //! A feed that is written.
-ghost use Rattle.std.specs.Prelude.{◌≡◌, ◌+◌, ◌^◌, ◌<◌, ◌≤◌, ◌++◌, ℕ, List, [], length, slice_index, IsTrue, IfOk};
-ghost use Rattle.std.specs.Prelude.{OnOk};
-ghost use Rattle.sqlite_disk.specs.Disk.{Only, Follows};
+ghost use Rattle.std.specs.Prelude.{◌≡◌, ◌≢◌, ◌⊎◌, ◌+◌, ◌^◌, ◌<◌, ◌≤◌, ◌++◌, ℕ, List, [], length, slice_index};
+ghost use Rattle.std.specs.Prelude.{IsTrue, IfOk, OnOk, IfErr, IsErrOf};
+ghost use Rattle.sqlite_disk.specs.Disk.{Only, Follows, MoreFaults};
 ghost use Rattle.chr_records.specs.Records.{records_of, IsWhole};
 ghost use Rattle.chr_feeds.specs.Files.{IsBlank, IsGrown};
-ghost use Rattle.chr_feeds.specs.Feeds.{IsAtRest};
+ghost use Rattle.chr_feeds.specs.Feeds.{IsAtRest, GoesOn};
 ghost use Rattle.chr_feeds.specs.working.Fronts.{KeepsFront};
 
 use crate::FeedFault;
+use crate::limits::{BLOCK, MAX_SIZE};
 use sqlite_disk::Disk;
 use std::alloc::Global;
-
-/// How many blanks are laid at a time, beyond what is needed.
-const BLOCK: usize = 65_536;
-
-/// No feed has more bytes.
-const MAX_SIZE: usize = 1 << 60;
 
 /// A file of records, and what its writer knows of it: how many bytes the records take, and how many blanks stand
 /// behind them.
@@ -26,28 +21,41 @@ pub struct Feed<D: Disk> {
     pub room: usize,
 }
 
+/// A disk on which no feed was made, and why.
+#[derive(Drop)]
+pub struct NotCreated<D: Disk> {
+    pub disk: D,
+    pub fault: FeedFault,
+}
+
 impl<D: Disk + Drop> Feed<D> {
     /// A new feed, with no record, in a file that is empty.
     ///
     /// # Errors
     ///
-    /// `NotEmpty`, and `Disk`.
-    pub fn create(mut disk: D) -> Result<Feed<D>, FeedFault>
+    /// `Disk` where a call of the disk has failed, and `NotEmpty` where it tells a lie. The disk is handed back.
+    pub fn create(mut disk: D) -> Result<Feed<D>, NotCreated<D>>
         requires empty { D.seen disk ≡ [] }
         requires durable { Only (D.seen disk) (D.may_leave disk) }
         requires usable { IsTrue (D.is_usable disk) }
         ensures at_rest { IfOk result (λ feed. IsAtRest D.seen D.may_leave D.is_usable feed) }
         ensures none { IfOk result (λ feed. records_of (D.seen feed.disk) ≡ []) }
+        ensures disk { IfErr result (λ back. back.fault ≡ FeedFault.Disk
+            → MoreFaults (D.faults disk) (D.faults back.disk)) }
+        ensures not_empty { IfErr result (λ back. back.fault ≡ FeedFault.NotEmpty
+            → ¬ (IsTrue (D.is_clean back.disk))) }
+        ensures others { IfErr result (λ back.
+            (back.fault ≡ FeedFault.Disk) ⊎ (back.fault ≡ FeedFault.NotEmpty)) }
+        ensures any_moment { IfErr result (λ back. (c : List ℕ) → D.may_leave back.disk c → records_of c ≡ []) }
     {
-        if disk.len()? != 0 {
-            return Err(FeedFault::NotEmpty);
+        match shut_empty(&mut disk) {
+            Ok(()) => Ok(Feed {
+                disk,
+                size: 0,
+                room: 1,
+            }),
+            Err(fault) => Err(NotCreated { disk, fault }),
         }
-        shut_first(&mut disk)?;
-        Ok(Feed {
-            disk,
-            size: 0,
-            room: 1,
-        })
     }
 }
 
@@ -57,7 +65,8 @@ impl<D: Disk> Feed<D> {
     ///
     /// # Errors
     ///
-    /// `Disk`, `Full`, `Memory`. Then the feed need not be at rest, so it is not appended to again.
+    /// `Disk` where a call of the disk has failed: then the feed need not be at rest, so it is not appended to again.
+    /// `Full` where the feed would pass [`MAX_SIZE`], and `Memory`: then it goes on as it was.
     pub fn append(&mut self, alloc: Global, batch: &[u8]) -> Result<(), FeedFault>
         requires at_rest { IsAtRest D.seen D.may_leave D.is_usable self.old }
         requires whole { IsWhole batch.now }
@@ -68,6 +77,13 @@ impl<D: Disk> Feed<D> {
             → records_of c ≡ records_of (D.seen self.old.disk) ++ records_of batch.now) }
         ensures any_moment { (c : List ℕ) → D.may_leave self.new.disk c
             → IsGrown (records_of (D.seen self.old.disk)) (records_of batch.now) c }
+        ensures disk { IsErrOf result FeedFault.Disk
+            → MoreFaults (D.faults self.old.disk) (D.faults self.new.disk) }
+        ensures calm { OnOk result (D.faults self.new.disk ≡ D.faults self.old.disk) }
+        ensures full { IsErrOf result FeedFault.Full
+            → MAX_SIZE < self.old.size + self.old.room + length batch.now + BLOCK }
+        ensures goes_on { IfErr result (λ e. e ≢ FeedFault.Disk
+            → GoesOn D.seen D.may_leave D.is_usable D.faults self.old self.new) }
     {
         self.make_room(alloc, batch.len())?;
         if batch.is_empty() {
@@ -87,6 +103,12 @@ impl<D: Disk> Feed<D> {
         ensures at_rest { OnOk result (IsAtRest D.seen D.may_leave D.is_usable self.new) }
         ensures any_moment { (c : List ℕ) → D.may_leave self.new.disk c
             → records_of c ≡ records_of (D.seen self.old.disk) }
+        ensures size { self.new.size ≡ self.old.size }
+        ensures disk { IsErrOf result FeedFault.Disk
+            → MoreFaults (D.faults self.old.disk) (D.faults self.new.disk) }
+        ensures calm { OnOk result (D.faults self.new.disk ≡ D.faults self.old.disk) }
+        ensures full { IsErrOf result FeedFault.Full → MAX_SIZE < self.old.size + self.old.room + wanted + BLOCK }
+        ensures same { IfErr result (λ e. e ≢ FeedFault.Disk → self.new ≡ self.old) }
     {
         if !self.disk.mixes() || wanted < self.room {
             return Ok(());
@@ -111,6 +133,9 @@ impl<D: Disk> Feed<D> {
         ensures at_rest { OnOk result (IsAtRest D.seen D.may_leave D.is_usable self.new) }
         ensures any_moment { (c : List ℕ) → D.may_leave self.new.disk c
             → IsGrown (records_of (D.seen self.old.disk)) (records_of batch.now) c }
+        ensures disk { IfErr result (λ e. (e ≡ FeedFault.Disk)
+            × MoreFaults (D.faults self.old.disk) (D.faults self.new.disk)) }
+        ensures calm { OnOk result (D.faults self.new.disk ≡ D.faults self.old.disk) }
     {
         self.disk.write_at(self.size, batch)?;
         self.disk.sync()?;
@@ -128,6 +153,11 @@ impl<D: Disk> Feed<D> {
         ensures at_rest { OnOk result (IsAtRest D.seen D.may_leave D.is_usable self.new) }
         ensures any_moment { (c : List ℕ) → D.may_leave self.new.disk c
             → IsGrown (records_of (D.seen self.old.disk)) (records_of batch.now) c }
+        ensures disk { IsErrOf result FeedFault.Disk
+            → MoreFaults (D.faults self.old.disk) (D.faults self.new.disk) }
+        ensures calm { OnOk result (D.faults self.new.disk ≡ D.faults self.old.disk) }
+        ensures full { IsErrOf result FeedFault.Full → MAX_SIZE ≤ self.old.size + length batch.now }
+        ensures same { IfErr result (λ e. e ≢ FeedFault.Disk → self.new ≡ self.old) }
     {
         if batch.len() >= MAX_SIZE || self.size + batch.len() >= MAX_SIZE {
             return Err(FeedFault::Full);
@@ -141,6 +171,26 @@ impl<D: Disk> Feed<D> {
     }
 }
 
+// The first gate, which is closed, in a file that says that it is empty.
+fn shut_empty<D: Disk>(disk: &mut D) -> Result<(), FeedFault>
+    requires empty { D.seen disk.old ≡ [] }
+    requires durable { Only (D.seen disk.old) (D.may_leave disk.old) }
+    requires usable { IsTrue (D.is_usable disk.old) }
+    ensures blank { OnOk result (IsBlank 0 1 (D.seen disk.new)) }
+    ensures none { OnOk result (records_of (D.seen disk.new) ≡ []) }
+    ensures durable { OnOk result (Only (D.seen disk.new) (D.may_leave disk.new)) }
+    ensures usable { OnOk result (IsTrue (D.is_usable disk.new)) }
+    ensures any_moment { (c : List ℕ) → D.may_leave disk.new c → records_of c ≡ [] }
+    ensures disk { IsErrOf result FeedFault.Disk → MoreFaults (D.faults disk.old) (D.faults disk.new) }
+    ensures not_empty { IsErrOf result FeedFault.NotEmpty → ¬ (IsTrue (D.is_clean disk.new)) }
+    ensures others { IfErr result (λ e. (e ≡ FeedFault.Disk) ⊎ (e ≡ FeedFault.NotEmpty)) }
+{
+    if disk.len()? != 0 {
+        return Err(FeedFault::NotEmpty);
+    }
+    shut_first(disk)
+}
+
 // The first gate, which is closed.
 fn shut_first<D: Disk>(disk: &mut D) -> Result<(), FeedFault>
     requires empty { D.seen disk.old ≡ [] }
@@ -151,6 +201,7 @@ fn shut_first<D: Disk>(disk: &mut D) -> Result<(), FeedFault>
     ensures durable { OnOk result (Only (D.seen disk.new) (D.may_leave disk.new)) }
     ensures usable { OnOk result (IsTrue (D.is_usable disk.new)) }
     ensures any_moment { (c : List ℕ) → D.may_leave disk.new c → records_of c ≡ [] }
+    ensures disk { IfErr result (λ e. (e ≡ FeedFault.Disk) × MoreFaults (D.faults disk.old) (D.faults disk.new)) }
 {
     disk.write_at(0, &[0])?;
     disk.sync()?;
@@ -169,6 +220,8 @@ fn stage<D: Disk>(disk: &mut D, at: usize, batch: &[u8]) -> Result<(), FeedFault
     ensures durable { OnOk result (Only (D.seen disk.new) (D.may_leave disk.new)) }
     ensures usable { OnOk result (IsTrue (D.is_usable disk.new)) }
     ensures crash { Follows (KeepsFront (at + 1)) (D.may_leave disk.old) (D.may_leave disk.new) }
+    ensures disk { IfErr result (λ e. (e ≡ FeedFault.Disk) × MoreFaults (D.faults disk.old) (D.faults disk.new)) }
+    ensures calm { OnOk result (D.faults disk.new ≡ D.faults disk.old) }
 {
     disk.write_at(at + 1, &batch[1..])?;
     disk.write_at(at + batch.len(), &[0])?;
@@ -190,6 +243,9 @@ fn lay_blanks<D: Disk>(
     ensures durable { OnOk result (Only (D.seen disk.new) (D.may_leave disk.new)) }
     ensures usable { OnOk result (IsTrue (D.is_usable disk.new)) }
     ensures crash { Follows (KeepsFront end) (D.may_leave disk.old) (D.may_leave disk.new) }
+    ensures disk { IsErrOf result FeedFault.Disk → MoreFaults (D.faults disk.old) (D.faults disk.new) }
+    ensures calm { OnOk result (D.faults disk.new ≡ D.faults disk.old) }
+    ensures same { IfErr result (λ e. e ≢ FeedFault.Disk → (e ≡ FeedFault.Memory) × (disk.new ≡ disk.old)) }
 {
     let mut blanks = Vec::new(alloc);
     blanks.resize(count, 0)?;

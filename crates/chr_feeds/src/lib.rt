@@ -7,10 +7,12 @@
 
 mod fault;
 mod feed;
+mod limits;
 mod recovery;
 mod wire;
 
 pub use fault::FeedFault;
-pub use feed::Feed;
+pub use feed::{Feed, NotCreated};
+pub use limits::{BLOCK, MAX_SIZE};
 pub use recovery::{append_and_crash, read_file, recover};
 pub use wire::{Wire, keep_and_tell};

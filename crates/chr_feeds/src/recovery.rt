@@ -1,5 +1,6 @@
 //! Feeds that are read, and what is found after a crash.
-ghost use Rattle.std.specs.Prelude.{◌≡◌, ◌++◌, ℕ, List, IsTrue, IfOk};
+ghost use Rattle.std.specs.Prelude.{◌≡◌, ◌≢◌, ◌++◌, ℕ, List, IsTrue, IfOk, IfErr, IsErrOf};
+ghost use Rattle.sqlite_disk.specs.Disk.{MoreFaults};
 ghost use Rattle.chr_records.specs.Records.{records_of, texts_in, IsFront, IsWhole};
 ghost use Rattle.chr_feeds.specs.Feeds.{IsAtRest};
 
@@ -12,11 +13,15 @@ use std::alloc::Global;
 ///
 /// # Errors
 ///
-/// `Disk`, `Memory`.
+/// `Disk` where a call of the disk has failed, and `Memory`.
 pub fn read_file<D: Disk>(alloc: Global, disk: &mut D) -> Result<Vec<u8>, FeedFault>
     requires usable { IsTrue (D.is_usable disk.old) }
     ensures bytes { IfOk result (λ bytes. IsTrue (D.is_clean disk.new) → bytes.items ≡ D.seen disk.old) }
     ensures same { D.seen disk.new ≡ D.seen disk.old }
+    ensures disk { IsErrOf result FeedFault.Disk → IsTrue (D.is_clean disk.new)
+        → MoreFaults (D.faults disk.old) (D.faults disk.new) }
+    ensures others { IfErr result (λ e. e ≢ FeedFault.Disk → e ≡ FeedFault.Memory) }
+    ensures usable { IsTrue (D.is_usable disk.new) }
 {
     let mut bytes = Vec::new(alloc);
     bytes.resize(disk.len()?, 0)?;
@@ -28,12 +33,16 @@ pub fn read_file<D: Disk>(alloc: Global, disk: &mut D) -> Result<Vec<u8>, FeedFa
 ///
 /// # Errors
 ///
-/// `Disk`, `Memory`.
+/// `Disk` where a call of the disk has failed, and `Memory`.
 pub fn recover<D: Disk>(alloc: Global, disk: &mut D) -> Result<Records, FeedFault>
     requires usable { IsTrue (D.is_usable disk.old) }
     ensures texts { IfOk result (λ read. IsTrue (D.is_clean disk.new)
         → texts_in read.texts.items ≡ records_of (D.seen disk.old)) }
     ensures same { D.seen disk.new ≡ D.seen disk.old }
+    ensures disk { IsErrOf result FeedFault.Disk → IsTrue (D.is_clean disk.new)
+        → MoreFaults (D.faults disk.old) (D.faults disk.new) }
+    ensures others { IfErr result (λ e. e ≢ FeedFault.Disk → e ≡ FeedFault.Memory) }
+    ensures usable { IsTrue (D.is_usable disk.new) }
 {
     let bytes = read_file(alloc, disk)?;
     let records = read_records(alloc, &bytes)?;

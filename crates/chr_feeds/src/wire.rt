@@ -42,6 +42,7 @@ pub fn keep_and_tell<D: Disk, W: Wire>(
     ensures at_rest { OnOk result (IsAtRest D.seen D.may_leave D.is_usable feed.new) }
     ensures durable { OnOk result (IsDurable (D.may_leave feed.new.disk) text.now) }
     ensures told { OnOk result (W.told wire.new ≡ text.now ∷ W.told wire.old) }
+    ensures calm { OnOk result (D.faults feed.new.disk ≡ D.faults feed.old.disk) }
 {
     let mut batch = Vec::new(alloc);
     push_record(&mut batch, text)?;

@@ -71,7 +71,7 @@ fn what_is_appended_is_read(rt: HostRuntime) {
     let alloc = rt.alloc();
     let first = batch(alloc, b"one", b"two").expect(&rt, "memory");
     let second = batch(alloc, b"", b"four").expect(&rt, "memory");
-    let mut feed = Feed::create(Lasting::new(alloc)).expect(&rt, "a feed");
+    let mut feed = Feed::create(Lasting::new(alloc)).ok().expect(&rt, "a feed");
     assert!(rt; feed.append(alloc, &first).is_ok());
     assert!(rt; feed.append(alloc, &second).is_ok());
     let bytes = read_file(alloc, &mut feed.disk).expect(&rt, "bytes");
@@ -84,7 +84,9 @@ fn what_is_appended_is_read(rt: HostRuntime) {
 fn a_feed_whose_sync_failed_is_over(rt: HostRuntime) {
     let alloc = rt.alloc();
     let batch = batch(alloc, b"one", b"two").expect(&rt, "memory");
-    let mut feed = Feed::create(Fuse::new(Memory::new(alloc), 5)).expect(&rt, "a feed");
+    let mut feed = Feed::create(Fuse::new(Memory::new(alloc), 5))
+        .ok()
+        .expect(&rt, "a feed");
     assert!(rt; feed.append(alloc, &batch) == Err(FeedFault::Disk));
     assert!(rt; !feed.disk.may_be_used());
 }
@@ -93,7 +95,9 @@ fn a_feed_whose_sync_failed_is_over(rt: HostRuntime) {
 fn what_is_told_is_kept(rt: HostRuntime) {
     let alloc = rt.alloc();
     let mut caller = Caller::new(alloc);
-    let mut feed = Feed::create(Fuse::new(Memory::new(alloc), 12)).expect(&rt, "a feed");
+    let mut feed = Feed::create(Fuse::new(Memory::new(alloc), 12))
+        .ok()
+        .expect(&rt, "a feed");
     assert!(rt; keep_and_tell(alloc, &mut feed, &mut caller, b"one").is_ok());
     assert!(rt; keep_and_tell(alloc, &mut feed, &mut caller, b"two") == Err(FeedFault::Disk));
     assert!(rt; caller.told.len() == 1);
