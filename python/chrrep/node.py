@@ -51,6 +51,8 @@ from .words import shape_fault, symbol_fault, symbols_of
 _REPLICA = 1
 _NO_REPLICA = 0
 _DELTA_VERSION = 1
+_AHEAD = 8
+"""Lines that a node is sent for sure before it is waited for, at most."""
 _LOG = logging.getLogger("chrrep.node")
 
 
@@ -170,7 +172,7 @@ class Node:
         self._lock = threading.RLock()
         self._ended: NodeDied | None = None
         self._is_forked = False
-        self._is_sure = False
+        self._sure = 0
         self._store = StoreReader()
         self._text = text = text_bytes(program)
         end = b"---\n" if text.endswith(b"\n") or not text else b"\n---\n"
@@ -279,10 +281,14 @@ class Node:
     def merge_soon(self, delta: Sequence[Written]) -> None:
         """Sends operations that the node takes for sure, and doesn't wait for the answer, which the next call takes. So
         the node works beside its user. Numbers of its own origin are not looked at."""
-        line = f'["merge",{_REPLICA},{delta_text(delta)}]\n'.encode()
+        self.merge_text_soon(delta_text(delta))
+
+    def merge_text_soon(self, delta: str) -> None:
+        """The same of a delta that is written already."""
+        line = f'["merge",{_REPLICA},{delta}]\n'.encode()
         with self._lock, self._whole(), self._in_time() as end:
-            self._settle(end)
-            self._is_sure = True
+            self._settle(end, _AHEAD)
+            self._sure += 1
             self._process.send(line, end)
 
     def close(self) -> None:
@@ -347,14 +353,17 @@ class Node:
                 self._end(NodeDied("a call was interrupted, and ended the node"), by_force=True)
             raise
 
-    def _settle(self, end: float | None) -> None:
-        """Sees through what was sent without waiting for its answer, or was interrupted."""
+    def _settle(self, end: float | None, ahead: int = 0) -> None:
+        """Sees through what was sent without waiting for its answer, or was interrupted. So many answers, at most, may
+        be left, where those are of what the node takes for sure."""
         self._process.flush(end)
-        while self._process.owed:
+        while self._process.owed > (0 if self._process.is_deaf else min(ahead, self._sure)):
             answer = self._process.answer(end)
-            if self._is_sure and not answer.startswith("merged "):
-                raise NodeDied(f"the node didn't take what it was sent: {answer}")
-            self._is_sure = False
+            # those that the node takes for sure were sent last
+            if self._sure > self._process.owed:
+                self._sure -= 1
+                if not answer.startswith("merged "):
+                    raise NodeDied(f"the node didn't take what it was sent: {answer}")
 
     def _exchange(self, sent: bytes) -> str:
         """The answer to what is sent; in time, or the node is ended."""

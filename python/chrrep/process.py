@@ -1,10 +1,12 @@
 """A process that answers lines, asked over its standard input and output with an eye on the time."""
 
+import fcntl
 import logging
 import os
 import select
 import subprocess
 import time
+from contextlib import suppress
 
 from .refusals import NodeDied
 
@@ -12,6 +14,8 @@ _GRACE = 5.0
 """Seconds that a program has to end after the end of its input."""
 _PIPE = 65_536
 """Bytes that a pipe holds, and so the most that one reading finds."""
+_LARGE_PIPE = 1_048_576
+"""Bytes that the pipe to the program holds, where the system allows it: what is sent while the program works."""
 _NOTHING = memoryview(b"")
 _LOG = logging.getLogger("chrrep.node")
 
@@ -32,6 +36,8 @@ class Process:
     """Answers that have not been read yet."""
     is_waiting = False
     """Whether nothing is being sent or read."""
+    is_deaf = False
+    """Whether it was found that the program reads no more."""
 
     def __init__(self, words: list[str]) -> None:
         self._process = subprocess.Popen(
@@ -41,6 +47,8 @@ class Process:
         self._input, self._output = self._process.stdin.fileno(), self._process.stdout.fileno()
         # no write is to wait for a program that takes nothing
         os.set_blocking(self._input, False)
+        with suppress(OSError):
+            fcntl.fcntl(self._input, fcntl.F_SETPIPE_SZ, _LARGE_PIPE)
         self._room, self._answers = select.poll(), select.poll()
         self._room.register(self._input, select.POLLOUT)
         self._answers.register(self._output, select.POLLIN)
@@ -69,7 +77,7 @@ class Process:
                 except BlockingIOError:
                     self._wait_for(self._room, end)
         except BrokenPipeError:
-            pass
+            self.is_deaf = True
         self._left = _NOTHING
 
     def answer(self, end: float | None) -> str:

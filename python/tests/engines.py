@@ -104,7 +104,8 @@ class Embedded(Engine):
                 engine.execute(statement, values)
 
     def write_state(self, log: str, field: str, value: str | int) -> None:
-        self.run((f"UPDATE logs SET {field} = ? WHERE log = ?", (value, log)))
+        table = "states" if field in ("program", "position", "store") else "logs"
+        self.run((f"UPDATE {table} SET {field} = ? WHERE log = ?", (value, log)))
 
     def write_lease(self, log: str, origin: int, seconds: float) -> None:
         self.run(("INSERT OR REPLACE INTO origins VALUES (?, ?, 0, 'x', ?)", (log, origin, time.time() + seconds)))
@@ -118,7 +119,8 @@ class Embedded(Engine):
         self.run((f"INSERT INTO entries ({columns}) VALUES (?, ?, ?, ?, 'x')", (log, origin, number, atoms)))
 
     def lose(self, log: str) -> None:
-        self.run(*((f"DELETE FROM {table} WHERE log = ?", (log,)) for table in ("logs", "entries", "origins", "names")))
+        tables = ("logs", "states", "entries", "origins", "names")
+        self.run(*((f"DELETE FROM {table} WHERE log = ?", (log,)) for table in tables))
 
     def lose_entries(self, log: str, origin: int) -> None:
         self.run(("DELETE FROM entries WHERE log = ? AND origin = ?", (log, origin)))
@@ -133,6 +135,16 @@ class Embedded(Engine):
                 (log, 1, '[["mark",1]]'), (log, 2, '[["mark",7]]')
             ])  # fmt: skip
             engine.execute("INSERT INTO names VALUES (?, 5, 'five', 1)", (log,))
+
+    def make_second(self, log: str, program: str, store: str) -> None:
+        """The same of format 2."""
+        self.make_old(log, program, store)
+        with closing(sqlite3.connect(self.path)) as engine, engine:
+            for column in ("logs ADD COLUMN id TEXT NOT NULL DEFAULT 'x'", "logs ADD COLUMN room INTEGER DEFAULT 4",
+                           "logs ADD COLUMN appends INTEGER DEFAULT 2", "logs ADD COLUMN place INTEGER DEFAULT 1",
+                           "names ADD COLUMN used INTEGER NOT NULL DEFAULT 0"):  # fmt: skip
+                engine.execute(f"ALTER TABLE {column}")
+            engine.execute("UPDATE logs SET format = 2")
 
 
 _OLD_TABLES = """

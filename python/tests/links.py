@@ -43,7 +43,7 @@ from chrrep.link import (
     State,
     connect,
 )
-from chrrep.link.log import FORMAT, SEAL_SECONDS
+from chrrep.link.log import SEAL_SECONDS
 from chrrep.names import NameClash, named_atoms_of
 from engines import Engine, Server
 from kills import KILLS, SECONDS, Command, Kills, chance_of_stop
@@ -153,9 +153,10 @@ class Links(unittest.TestCase):
         return self.stack.enter_context(Member(self.link(origin), program, snapshot_after=snapshot_after))
 
     def put(self, link: Link, entries: Sequence[Entry], epoch: int = 1, names: Mapping[int, str] = {}) -> None:
-        """Appends entries after what the log has of their origin."""
+        """Appends entries, of numbers that follow each other, after what the log has of their origin."""
         before = link.newest().get(link.origin, 0)
-        link.append(Batch(entries, epoch, before, len(entries), names))
+        texts = [entry.atoms for entry in entries]
+        link.append(Batch(entries[0].id, texts, entries[0].writer, epoch, before, len(entries), names))
 
     def command(self, *options: str) -> Command:
         command = Command(self.engine, self.log, self.program, *options)
@@ -666,11 +667,13 @@ class Programs(Links):
             Member(self.link(), PATHS, wide=False)
 
     def test_a_log_of_a_later_format(self) -> None:
-        self.member(PLAIN).tell(("a", 1))
-        self.engine.set_format(self.log, FORMAT + 1)
-        with self.assertRaisesRegex(NewerFormat, f"format {FORMAT + 1}"):
+        member = self.member(PLAIN)
+        member.tell(("a", 1))
+        last = member.link.format
+        self.engine.set_format(self.log, last + 1)
+        with self.assertRaisesRegex(NewerFormat, f"format {last + 1}"):
             self.link()
-        self.engine.set_format(self.log, FORMAT)
+        self.engine.set_format(self.log, last)
         self.assertEqual(self.member().show(), (("a", 1),))
 
     def test_a_log_of_another_epoch(self) -> None:

@@ -149,6 +149,7 @@ class Outcomes(Links):
         told: list[Id] = []
         for at, (kind, name, fault) in enumerate(rows):
             member = self.member(MARKED, snapshot_after=2000)
+            member.listen(lambda entries: None)
             with self.subTest(name=name, fault=fault), self.assertLogs("chrrep.link", "WARNING"):
                 holder = member.link if kind is Link else kind
                 with patch.object(holder, name, side_effect=fault):

@@ -16,9 +16,22 @@ from unittest.mock import patch
 
 import links
 import promises
-from chrrep.link import Link, LinkLost, LogUnusable, OriginShared, connect, join
+from chrrep import Id
+from chrrep.link import (
+    Count,
+    Entry,
+    Link,
+    LinkLost,
+    LogUnusable,
+    Member,
+    OriginShared,
+    Program,
+    State,
+    connect,
+    join,
+)
 from chrrep.link.__main__ import _beside
-from chrrep.link.log import FORMAT
+from chrrep.link.sqlite import FORMAT
 from engines import Embedded, Engine
 from kills import PACKAGE, Command
 from programs import COINS, MARKED, PATHS, PLAIN
@@ -131,15 +144,69 @@ class Files(unittest.TestCase):
             odd: list[tuple[int, object]] = [(3, b'[["mark",9]]'), (4, 7), (5, b"\xff")]
             for number, atoms in odd:
                 text = "CAST(? AS TEXT)" if number == 5 else "?"
-                engine.run((f"INSERT INTO entries VALUES ('chrrep', 1, ?, {text}, 'x')", (number, atoms)))
+                columns = "log, origin, number, atoms, writer"
+                engine.run((f"INSERT INTO entries ({columns}) VALUES ('chrrep', 1, ?, {text}, 'x')", (number, atoms)))
             engine.write_entry("chrrep", 2**32 - 1, 1, '[["mark",10]]')
             engine.write_entry("chrrep", 7, 1, '[["mark",11]]')
             with self.assertLogs("chrrep.link", "WARNING"):
                 self.assertEqual(member.show(), (("mark", 1), ("mark", 7), ("mark", 11)))
             self.assertEqual((member.refused, len(member.link.refused())), (4, 4))
-        engine.run(("INSERT INTO entries VALUES ('chrrep', 'x', 'y', '[]', 'x')", ()))
+        engine.run(("INSERT INTO entries VALUES ('chrrep', 'x', 'y', '[]', 'x', 1)", ()))
         with self.assertRaisesRegex(LogUnusable, "damaged"), join(engine.url):
             pass
+
+    def test_a_file_of_the_format_before(self) -> None:
+        """It is changed in place, and a log in it keeps its id, its room and its names."""
+        engine = Embedded()
+        self.addCleanup(engine.close)
+        engine.make_second("chrrep", MARKED, "mark(1), path(1,2,5)")
+        with join(engine.url) as one, join(engine.url, MARKED) as other:
+            self.assertEqual((one.link.log_id, one.link.count()), ("x", Count(2, 1, 4)))
+            self.assertEqual([named[1:] for named in one.link.names()], [(5, "five")])
+            one.tell(("mark", 8))
+            for member in (one, other):
+                self.assertEqual(member.show(), (("mark", 1), ("mark", 7), ("mark", 8), ("path", 1, 2, "five")))
+            self.assertTrue(other.snapshot())
+        with join(engine.url) as member:
+            self.assertEqual(member.count("mark"), 3)
+
+    def test_operations_that_are_told_at_once_share_rows(self) -> None:
+        """They are read from any number on, and those that a snapshot stands for are cut from them."""
+        with join(self.url, MARKED) as member:
+            member.tell_many([[("mark", value)] for value in range(2500)])
+            writer, ask = member.link.writer, getattr(member.link, "_ask")
+            count, rows = ask("SELECT sum(count), count(*) FROM entries")[0]
+            self.assertEqual((count, rows < 10), (2500, True))
+            for number in (0, 1, 499, 999, 1000, 1500, 2499, 2500):
+                entries = member.link.read({1: number}).entries
+                wanted = range(number + 1, min(2500, number + 1000) + 1)
+                self.assertEqual(entries, [Entry(Id(1, at), f'[["mark",{at - 1}]]', writer) for at in wanted])
+            program = Program(MARKED.encode())
+            for generation, end in enumerate((700, 701, 1000, 2500), 1):
+                self.assertTrue(member.link.keep(State(1, program, generation, {1: end}, "true")))
+                self.assertEqual(member.link.read({}).entries[0].id, Id(1, end))
+            self.assertEqual(ask("SELECT number, count FROM entries"), [(2500, 1)])
+
+    def test_a_row_that_is_damaged(self) -> None:
+        with join(self.url, MARKED) as member:
+            member.tell_many([[("mark", value)] for value in range(20)])
+            member.link._ask("UPDATE entries SET count = 19")  # type: ignore[attr-defined]
+            with self.assertRaisesRegex(LogUnusable, "damaged: .*a row has 20 operations, and not 19"), join(self.url):
+                pass
+
+    def test_a_tell_costs_no_more_where_the_snapshot_is_large(self) -> None:
+        def seconds(member: Member) -> float:
+            begin = time.thread_time()
+            for value in range(300):
+                member.tell(("mark", -value))
+            return time.thread_time() - begin
+
+        with join(self.url, MARKED) as member:
+            before = seconds(member)
+            for first in range(0, 60_000, 5000):
+                member.tell_many([[("mark", 10**15 + first + value)] for value in range(5000)])
+            self.assertTrue(member.snapshot())
+            self.assertLess(seconds(member), 5 * before)
 
     def test_a_file_that_is_held_longer_than_a_lease(self) -> None:
         """The live node keeps its origin, also where somebody asks for just that as soon as the file is free."""

@@ -158,9 +158,17 @@ class Answers(unittest.TestCase):
                     node.show()
         with Node(PLAIN, 1, timeout=1.0) as node:
             os.kill(node.pid, signal.SIGSTOP)
-            node.merge_soon([OperationText(Id(2, 1), '[["a",1]]')])
             with self.assertRaisesRegex(NodeDied, "no answer within 1.0 seconds"):
-                node.merge_soon([OperationText(Id(2, 2), '[["a",2]]')])
+                for number in range(1, 20):
+                    node.merge_soon([OperationText(Id(2, number), f'[["a",{number}]]')])
+            # it is sent a few lines before it is waited for
+            self.assertGreater(number, 2)
+        with Node(PLAIN, 1) as node:
+            os.kill(node.pid, signal.SIGKILL)
+            with self.assertRaisesRegex(NodeDied, "the node died"):
+                for number in range(3):
+                    time.sleep(0.2)
+                    node.merge_soon([OperationText(Id(2, number), f'[["a",{number}]]')])
 
     def test_parts_of_a_store_are_shown(self) -> None:
         with Node(PATHS, 1) as node:
@@ -671,7 +679,7 @@ class Interrupts(StandIns):
     def test_a_line_that_is_interrupted_is_sent_on(self) -> None:
         """It is longer than what a pipe holds."""
         atoms = [("a", value) for value in range(OPERATION_ATOMS)]
-        with Node(PLAIN, 1) as node:
+        with patch("chrrep.process._LARGE_PIPE", 65_536), Node(PLAIN, 1) as node:
             self.interrupt(node, lambda: node.tell_many([atoms] * 500))
             self.assertEqual(node.count("a"), 500 * OPERATION_ATOMS)
             soon = [OperationText(Id(2, number), '[["a",-1]]') for number in range(9000)]

@@ -22,7 +22,7 @@ from unittest.mock import patch
 
 from browser import CHROMIUM, DRIVER, Browser
 from chrrep import Atom, Id
-from chrrep.link import Batch, Entry, Heard, Member, PageUnusable, connect, join
+from chrrep.link import Batch, Heard, Member, PageUnusable, connect, join
 from chrrep.link.page import Page, behind, json_text, members_of, tables_of
 from chrrep.texts import LINE_LIMIT
 from engines import LOOPBACK
@@ -291,8 +291,7 @@ class Events(Served):
             events = events_of(answer)
             self.until(events, "told", [["1:1", "path(berlin,1,2)"]])
             with self.assertLogs("chrrep.link", "WARNING"):
-                told = [Entry(Id(link.origin, number), text, link.writer) for number, text in enumerate(texts, 1)]
-                link.append(Batch(told, 1, 0, len(told), {}))
+                link.append(Batch(Id(link.origin, 1), texts, link.writer, 1, 0, len(texts), {}))
                 shown = dict(self.until(events, "told", None))
             self.assertEqual(list(shown), [f"2:{number}" for number in range(1, len(texts) + 1)])
             self.assertEqual([shown[f"2:{number}"] for number in (1, 2, 3)], texts[:3])

@@ -32,7 +32,7 @@ class Countings(unittest.TestCase):
     def test_rules_that_leave_no_more_than_they_take(self) -> None:
         for program in (COINS, PATHS, ":- chr_constraint a/1, b/1.\n:- chr_weight a/1 = 1000000.\na(X) <=> b(X).\n"):
             counting = Counting(program.encode())
-            self.assertEqual(counting.of_written('[["a",1],["a",2],["b",3]]'), 3)
+            self.assertEqual(counting.of_written(['[["a",1],["a",2]]', '[["b",3]]']), 3)
             self.assertEqual((counting.of_store("true"), counting.of_store("a(1), b(2), coin")), (0, 3))
 
     def test_what_an_atom_can_come_to(self) -> None:
@@ -44,7 +44,7 @@ class Countings(unittest.TestCase):
             with self.subTest(store=store):
                 counting = Counting(program.encode())
                 self.assertEqual(counting.of_store(store), wanted)
-                self.assertEqual(counting.of_written(atoms_text(atoms_of(store))), wanted)
+                self.assertEqual(counting.of_written([atoms_text(atoms_of(store))]), wanted)
 
     def test_atoms_that_come_to_more_together(self) -> None:
         """Each counts for so much that both have room for 8, and neither for less than itself."""

@@ -17,14 +17,16 @@ from collections.abc import Callable, Iterable, Iterator, Mapping, Sequence
 from contextlib import suppress
 from functools import partial, wraps
 from types import TracebackType
-from typing import Any, NamedTuple, ParamSpec, Self, TypeAlias, TypeVar
+from typing import TYPE_CHECKING, Any, NamedTuple, ParamSpec, Self, TypeAlias, TypeVar
 from urllib.parse import urlsplit
 
 from ..refusals import Full, WrongProcess
 from ..texts import Atom, Id, atoms_text
 from .faults import LinkLost, LogLost, LogUnusable, NewerFormat, OriginShared
 from .room import ROOM
-from .telling import Batch
+
+if TYPE_CHECKING:
+    from .telling import Batch
 
 Position: TypeAlias = Mapping[int, int]
 """What has been read of a log: of each origin all operations up to a number. An origin that isn't there has none."""
@@ -186,9 +188,9 @@ def program_of(kept: str) -> Program:
     return Program(record["text"].encode(errors="surrogateescape"), record["wide"])
 
 
-def known_format(kept: int) -> None:
+def known_format(kept: int, last: int = FORMAT) -> None:
     """Raises `NewerFormat` where the format of a log is none that this version reads."""
-    if kept > FORMAT:
+    if kept > last:
         raise NewerFormat(kept)
 
 
@@ -258,6 +260,59 @@ def of_damaged(call: Callable[P, T]) -> Callable[P, T]:
     return reading
 
 
+class Busy(Exception):
+    """Another thread took too long."""
+
+    def __init__(self) -> None:
+        super().__init__("another call has no answer yet")
+
+
+def in_turn(
+    lock: "threading._RLock", seconds: float, call: Callable[P, T], *values: P.args, **named: P.kwargs
+) -> T:
+    """The call's result, made by one thread at a time; `Busy` where others take longer than so many seconds. Wherever
+    an interrupt comes, as by Ctrl-C, the lock is free afterwards."""
+    try:
+        # an interrupt may come once it was taken, and before anything tells so
+        if not lock.acquire(timeout=max(0.0, seconds)):
+            raise Busy
+        return call(*values, **named)
+    finally:
+        # nothing is called before this, so that no interrupt comes before it
+        try:
+            lock.release()
+        except RuntimeError:
+            # it was not taken
+            pass
+
+
+class Flag:
+    """Something that is so from some moment on. An event of Python's may stay locked after an interrupt."""
+
+    def __init__(self) -> None:
+        self.is_set = False
+        self._lock = threading.Lock()
+        self._lock.acquire()
+
+    def set(self) -> None:
+        """Has it be so, and wakes who waits."""
+        self.is_set = True
+        self._open()
+
+    def wait(self, seconds: float) -> bool:
+        """Waits for so long until it is so, and says whether it is. An interrupt may have others wait to their end."""
+        if not self.is_set and self._lock.acquire(timeout=seconds):
+            self._open()
+        return self.is_set
+
+    def _open(self) -> None:
+        try:
+            self._lock.release()
+        except RuntimeError:
+            # it is open
+            pass
+
+
 class Link(ABC):
     """A node's way to the log.
 
@@ -273,6 +328,7 @@ class Link(ABC):
     log_id: str
     """What tells this log from others, also from one that stands in its place after the engine has lost it."""
 
+    format = FORMAT
     lease_seconds = LEASE_SECONDS
     room_limit = ROOM
     position: Callable[[], Position]
@@ -286,7 +342,7 @@ class Link(ABC):
         self.writer = secrets.token_hex(8)
         self.is_allotted = False
         self._process = os.getpid()
-        self._closing = threading.Event()
+        self._closing = Flag()
         self._is_closed = False
         self._renewed = time.monotonic()
 
@@ -307,14 +363,13 @@ class Link(ABC):
         """Gives the log this program where it has none."""
 
     @abstractmethod
-    def append(self, batch: Batch) -> None:
-        """Puts the entries of a batch, of the link's own origin and mark, into the log, all or none: by rising numbers,
-        which are beyond all of that origin that are there. To append again what it appended last changes nothing.
+    def append(self, batch: "Batch") -> None:
+        """Puts a batch, of the link's own origin and mark, into the log, all or none: by numbers that are beyond all of
+        that origin that are there. To append again what it appended last changes nothing.
 
         Raises `OriginShared` where another link has taken the origin or used a number, `ProgramChanged` where the log's
         epoch is another, `Full` where there is no room, `NameClash`, and `LogLost` where the log is not the one that
-        was joined, or lacks operations of the origin. The batch's `is_unsure` then says whether the entries may be in
-        the log.
+        was joined, or lacks operations of the origin. The batch's `is_unsure` then says whether it may be in the log.
         """
 
     @abstractmethod
@@ -471,11 +526,11 @@ class Link(ABC):
         if found != self.log_id:
             raise LogLost("what is there now is another log" if found else "nothing is there any more")
 
-    def _full(self, batch: Batch) -> Full:
+    def _full(self, batch: "Batch") -> Full:
         """What is raised where the log has no room for a batch."""
         return Full(f"the log has no room for what can come to {batch.room} atoms: it holds {self.room_limit}")
 
-    def _check_end(self, end: int, batch: Batch) -> None:
+    def _check_end(self, end: int, batch: "Batch") -> None:
         """Raises where the origin ends elsewhere in the log than the member knows."""
         if end < batch.before:
             raise LogLost(f"operations {end + 1} to {batch.before} of origin {self.origin} are not there any more")
@@ -487,21 +542,20 @@ class Link(ABC):
         self.check_process()
         end = time.monotonic() + self.patience
         pause = _FIRST_PAUSE
-        again: tuple[type[Exception], ...] = (*lost, Sealed)
         while True:
             if self._is_closed:
                 raise LinkLost("the link was closed")
             try:
                 return call(max(_FIRST_PAUSE, end - time.monotonic()))
-            except again as error:
-                if time.monotonic() + pause > end or self._closing.is_set():
+            except (*lost, Sealed) as error:
+                if time.monotonic() + pause > end or self._closing.is_set:
                     raise LinkLost(f"the engine doesn't answer: {one_line(error)}") from error
                 _LOG.info("the engine doesn't answer, and is asked again in %g seconds: %s", pause, one_line(error))
             self._closing.wait(pause)
             pause = min(2 * pause, _LONGEST_PAUSE)
 
 
-def _hold_on(reference: "weakref.ref[Link]", closing: threading.Event) -> None:
+def _hold_on(reference: "weakref.ref[Link]", closing: Flag) -> None:
     """Has a link hold its origin until it is closed or dropped."""
     beaten, told = time.monotonic(), ""
     while not closing.wait(min(_HEARTBEAT, _REPORT_SECONDS)):

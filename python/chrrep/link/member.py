@@ -5,9 +5,9 @@ import os
 import re
 import threading
 import weakref
-from collections.abc import Callable, Iterable, Iterator, Sequence
+from collections.abc import Callable, Iterable, Iterator, Mapping, Sequence
 from contextlib import contextmanager, suppress
-from itertools import count, repeat
+from itertools import chain
 from types import TracebackType
 from typing import NamedTuple, Self, TypeVar
 
@@ -68,6 +68,7 @@ _LOG = logging.getLogger("chrrep.link")
 _MOVES = 3
 """Origins that a call gives up for others, at most."""
 _NUMBER = re.compile(r"-?\d+")
+_NO_NAMES: Mapping[int, str] = {}
 _NOTHING_APPENDED = (OriginShared, ProgramChanged, LogLost, LogUnusable, LinkLost, Refused, NameClash)
 """What a link raises of a batch, which says then whether it may be in the log all the same."""
 
@@ -76,11 +77,19 @@ class Admitted(NamedTuple):
     """Operations as they are appended, and these as they were told where they may have names."""
 
     texts: list[str]
-    told: Operations
+    told: Operations | None = None
 
-    def names(self, at: int, known: Names) -> dict[int, str]:
+    def names(self, at: int, known: Names) -> Mapping[int, str]:
         """The names in one batch of them."""
-        return known.of(atom for atoms in self.told[at:at + BATCH] for atom in atoms)
+        if self.told is None:
+            return _NO_NAMES
+        return known.of(chain.from_iterable(self.told[at:at + BATCH]))
+
+
+class _Journals(threading.local):
+    """The journal of each thread's tells."""
+
+    open: Journal | None = None
 
 
 class Member:
@@ -115,7 +124,7 @@ class Member:
         self._is_sure = True
         self._unsettled: Tell | None = None
         self._late: Exception | None = None
-        self._journals = threading.local()
+        self._journals = _Journals()
         self._refused = 0
         self._unkept: list[SetAside] = []
         self._names = Names()
@@ -180,7 +189,7 @@ class Member:
         What is raised has the ids of those that are `told`, the first ones, and of those that are `unsure`, which
         follow. `after` it the same operations are told on, and none of them twice.
         """
-        operations = [tuple(atoms) for atoms in tells]
+        operations: Operations = [tuple(atoms) for atoms in tells]
         self.link.check_process()
         with self._lock:
             tell = self._begun(operations, after)
@@ -374,7 +383,7 @@ class Member:
     @contextmanager
     def _journal(self) -> Iterator[Journal]:
         """The journal of the tells that this thread makes."""
-        outer: Journal | None = getattr(self._journals, "open", None)
+        outer = self._journals.open
         journal = self._journals.open = outer or Journal()
         try:
             yield journal
@@ -385,7 +394,7 @@ class Member:
         """The tell of operations, or the one that goes on after what was raised."""
         if after is not None:
             return tell_of(after, operations)
-        journal: Journal | None = getattr(self._journals, "open", None)
+        journal = self._journals.open
         return journal.next(operations) if journal else Tell(operations)
 
     def _go_over(self, new: Replica) -> bool:
@@ -440,7 +449,7 @@ class Member:
         """Operations that the node takes, as they are appended."""
         texts = self._replica.writing.texts(operations)
         if texts is not None:
-            return Admitted(texts, [])
+            return Admitted(texts)
         # there are names, or what is to be refused
         texts = self._asked([[numbered(atom) for atom in atoms] for atoms in operations])
         for name in self._names.of(atom for atoms in operations for atom in atoms).values():
@@ -453,20 +462,16 @@ class Member:
         texts = writing.texts(operations)
         if texts is None:
             texts = list(map(atoms_text, operations))
-            self._replica.admit(self._entries(texts))
+            self._replica.admit(self._batch(texts, {}).entries)
             writing.learn(operations)
         return texts
 
-    def _entries(self, texts: Iterable[str]) -> list[Entry]:
-        """The entries that this member tells next."""
-        ids = map(Id._make, zip(repeat(self.origin), count(self._replica.position.get(self.origin, 0) + 1)))
-        return list(map(Entry._make, zip(ids, texts, repeat(self.link.writer))))
-
-    def _batch(self, texts: Sequence[str], names: dict[int, str]) -> Batch:
+    def _batch(self, texts: Sequence[str], names: Mapping[int, str]) -> Batch:
         """The batch that this member appends next."""
-        before = self._replica.position.get(self.origin, 0)
-        room = sum(map(self._replica.counting.of_written, texts))
-        return Batch(self._entries(texts), self._epoch, before, room, names)
+        link, replica = self.link, self._replica
+        before = replica.position.get(link.origin, 0)
+        room = replica.counting.of_written(texts)
+        return Batch(Id(link.origin, before + 1), texts, link.writer, self._epoch, before, room, names)
 
     def _take_up(self, replica: Replica, state: State) -> None:
         self._replica, self._epoch, self._generation = replica, state.epoch, state.generation
@@ -498,14 +503,15 @@ class Member:
 
     def _go_on(self, tell: Tell) -> None:
         """Tells what is left of the operations of a call."""
-        if not tell.rest:
+        if tell.rest:
+            self._raise_late()
+            self._make_sure(tell)
+        rest = tell.rest
+        if not rest:
             return
-        self._raise_late()
-        self._make_sure(tell)
-        begin, operations = len(tell.told), self._admitted(tell.rest)
+        begin, operations = len(tell.told), self._admitted(rest)
         moves = 0
-        while tell.rest:
-            at = len(tell.told) - begin
+        while (at := len(tell.told) - begin) < len(rest):
             try:
                 self._append(tell, operations.texts[at:at + BATCH], operations.names(at, self._names))
             except OriginShared:
@@ -516,12 +522,13 @@ class Member:
 
     def _make_sure(self, tell: Tell) -> None:
         """Finds out what is in the log of what this member was appending, and reads it."""
+        if self._is_sure and not self._unsettled and not tell.unsure:
+            return
         if self._unsettled and self._unsettled is not tell:
             # where nobody knows any more it stays unsure
             with suppress(OriginShared):
                 self._settle(self._unsettled)
-        if tell.unsure:
-            self._settle(tell)
+        self._settle(tell)
         self._unsettled = None
         if not self._is_sure:
             self.catch_up()
@@ -529,17 +536,17 @@ class Member:
 
     def _settle(self, tell: Tell) -> None:
         """Finds out whether what is unsure is in the log; from then on it doesn't come there any more."""
-        tell.settle(self.link.settle(tell.unsure[-1]))
+        if tell.unsure:
+            tell.settle(self.link.settle(tell.unsure.last))
 
     def _leave_origin(self, tell: Tell) -> None:
         """Goes on with another origin, and finds out first what came into the log under the one before."""
-        if tell.unsure:
-            self._settle(tell)
+        self._settle(tell)
         self._move()
         self._is_sure = False
         self._make_sure(tell)
 
-    def _append(self, tell: Tell, texts: Sequence[str], names: dict[int, str]) -> None:
+    def _append(self, tell: Tell, texts: Sequence[str], names: Mapping[int, str]) -> None:
         """Appends one batch, and makes room for it in the log where that has to be."""
         try:
             self._put(tell, texts, names)
@@ -547,16 +554,16 @@ class Member:
             self._make_room(fault)
             self._put(tell, texts, names)
 
-    def _put(self, tell: Tell, texts: Sequence[str], names: dict[int, str]) -> None:
+    def _put(self, tell: Tell, texts: Sequence[str], names: Mapping[int, str]) -> None:
         """Has the link append a batch, and takes notice of what becomes of it."""
         batch = self._batch(texts, names)
         self._is_sure = False
-        tell.unsure, self._unsettled = batch.entries, tell
+        tell.unsure, self._unsettled = batch, tell
         try:
             self.link.append(batch)
         except _NOTHING_APPENDED:
             if not batch.is_unsure:
-                tell.unsure, self._unsettled, self._is_sure = (), None, True
+                tell.unsure, self._unsettled, self._is_sure = None, None, True
             raise
         self._take_in(tell, batch)
 
@@ -564,12 +571,14 @@ class Member:
         """Takes notice that a batch is in the log. Nothing of what follows is raised: what was told stays told."""
         tell.settle(True)
         self._unsettled = None
-        self._last_told = batch.last.id.number
-        self._told_since += self._replica.owe(batch.entries)
+        self._last_told = batch.end
+        self._told_since += self._replica.owe(batch)
         self._is_sure = True
         try:
-            self._names.learn(batch.names.items())
-            self._hear(batch.entries)
+            if batch.names:
+                self._names.learn(batch.names.items())
+            if self._listeners:
+                self._hear(batch.entries)
             if self._replica.is_due:
                 self._replica.give()
             self._keep_where_due()

@@ -329,9 +329,9 @@ class PostgresLink(Link):
             "id": self.log_id,
             "origin": self.origin,
             "writer": self.writer,
-            "numbers": [entry.id.number for entry in batch.entries],
-            "atoms": [entry.atoms for entry in batch.entries],
-            "first": batch.entries[0].id.number,
+            "numbers": list(range(batch.first.number, batch.end + 1)),
+            "atoms": list(batch.texts),
+            "first": batch.first.number,
             "before": batch.before,
             "epoch": batch.epoch,
             "room": batch.room,
@@ -380,7 +380,7 @@ class PostgresLink(Link):
                 self._patiently(lambda left: self._bell.use(self._bell.hush, left), _LOST)
             entries = list(entries_of(self._ask(_READ, **_arrays(after), limit=READ_AT_ONCE)))
             left = end - time.monotonic()
-            if entries or left <= 0 or self._closing.is_set():
+            if entries or left <= 0 or self._closing.is_set:
                 # asked for after the entries: those that were missed were removed by a generation that is told
                 id, generation = self._state_row("generation")
                 self._check_id(id)
@@ -533,7 +533,7 @@ class PostgresLink(Link):
         last = batch.last
         if end == last.id.number and self._rows(_FIND, origin=self.origin, number=end) == [last[1:]]:
             return
-        if end >= batch.entries[0].id.number or holder != self.writer:
+        if end >= batch.first.number or holder != self.writer:
             raise OriginShared(self.origin)
         if epoch != batch.epoch:
             raise ProgramChanged

@@ -291,7 +291,7 @@ class RedisLink(Link):
         fixed = [self.log_id, self.origin, self.writer, self._fence, self._lease_milliseconds, _SEAL_MILLISECONDS]
         needed = [batch.epoch, batch.before, batch.room, self.room_limit, len(batch.names)]
         names = [word for pair in batch.names.items() for word in pair]
-        words = [word for entry in batch.entries for word in (entry.id.number, entry.atoms)]
+        words = [word for operation in enumerate(batch.texts, batch.first.number) for word in operation]
         batch.is_unsure = False
 
         def add() -> list[str]:

@@ -8,9 +8,21 @@ from typing import NamedTuple
 
 from ..node import ANSWER_SECONDS, Node
 from ..refusals import Full, Refused
-from ..texts import OPERATION_LIMIT, TOLD_LIMIT, Atom, Id, OperationText, Written, atoms_of, atoms_text, text_pieces
+from ..texts import (
+    LINE_LIMIT,
+    OPERATION_LIMIT,
+    TOLD_LIMIT,
+    Atom,
+    Id,
+    OperationText,
+    Written,
+    atoms_of,
+    atoms_text,
+    text_pieces,
+)
 from .log import LAST_ORIGIN, Entry, Position, Program, SetAside
 from .room import Counting
+from .telling import Batch
 from .writing import Writing
 
 OWED_ATOMS = 2_000
@@ -18,6 +30,10 @@ OWED_ATOMS = 2_000
 
 _LOG = logging.getLogger("chrrep.link")
 _STORE_ORIGIN = LAST_ORIGIN + 1
+_BRACKETS = 3
+"""Brackets that an operation in a delta opens beside those of its atoms."""
+_LONGEST = LINE_LIMIT - 100
+"""Bytes of a delta of one line, at most."""
 
 
 class Taken(NamedTuple):
@@ -49,7 +65,7 @@ class Replica:
         self.told = 0
         self.writing = Writing()
         self.counting = Counting(program.text)
-        self._owed: list[Entry] = []
+        self._owed: list[Batch] = []
         self._owed_atoms = 0
         self._begun_with = 0
         self._running = running
@@ -67,12 +83,14 @@ class Replica:
         for part in text_pieces(entries):
             self.node.admit_texts(part)
 
-    def owe(self, entries: Sequence[Entry]) -> int:
-        """Takes in entries that were admitted and are in the log, and says how many atoms they have. The node is given
-        them before it is asked for anything."""
-        atoms = _count_atoms(entries)
-        self.position[entries[-1].id.origin] = entries[-1].id.number
-        self._owed += entries
+    def owe(self, batch: Batch) -> int:
+        """Takes in operations that were admitted and are in the log, and says how many atoms they have. The node is
+        given them before it is asked for anything."""
+        texts, end = batch.texts, batch.end
+        atoms = "".join(texts).count("[") - len(texts)
+        # no call stands between these, so that an interrupt comes before all of them or after
+        self.position[batch.first.origin] = end
+        self._owed += (batch,)
         self._owed_atoms += atoms
         return atoms
 
@@ -84,13 +102,14 @@ class Replica:
     def give(self) -> None:
         """Gives the node what it has yet to be given."""
         while self._owed:
-            part = next(text_pieces(self._owed))
-            atoms = _count_atoms(part)
-            self._make_room(atoms)
-            self.node.merge_soon(part)
-            self.told += atoms
-            self._owed_atoms -= atoms
-            del self._owed[:len(part)]
+            count = len(self._owed)
+            while len(text := ",".join([one.delta() for one in self._owed[:count]])) > _LONGEST and count > 1:
+                count //= 2
+            if len(text) > _LONGEST:
+                # operations that were told at once need not fit a line
+                self._owed[:1] = self._owed[0].halves
+            else:
+                self._give(text, count)
 
     def take(self, entries: Iterable[Entry]) -> Taken:
         """Takes in the entries that are beyond the position, each once; what can't be taken is passed over.
@@ -116,6 +135,23 @@ class Replica:
     def close(self) -> None:
         """Ends the node."""
         self.node.close()
+
+    def _give(self, text: str, count: int) -> None:
+        """Gives the node the first of what it has yet to be given, which are so many and have this text."""
+        atoms = text.count("[") - _BRACKETS * sum(len(one.texts) for one in self._owed[:count])
+        self._make_room(atoms)
+        try:
+            self.node.merge_text_soon(f"[{text}]")
+            # no call stands between these: what was sent is not sent again
+            self.told += atoms
+            self._owed_atoms -= atoms
+            del self._owed[:count]
+        except Exception:
+            raise
+        except BaseException:
+            # whether it was sent isn't known, and a node that is renewed would take it twice
+            self.node.close()
+            raise
 
     def _new_node(self) -> Node:
         chrrep, timeout = self._running

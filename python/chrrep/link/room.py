@@ -7,7 +7,7 @@ whatever is at rest of operations has no more atoms than these count for.
 
 import re
 from collections import Counter
-from collections.abc import Iterable, Mapping
+from collections.abc import Iterable, Mapping, Sequence
 from typing import NamedTuple, TypeAlias
 
 from ..texts import TOLD_LIMIT
@@ -46,12 +46,13 @@ class Counting:
     def __init__(self, program: bytes) -> None:
         self._shares = _shares_of(program.decode(errors="replace"))
 
-    def of_written(self, atoms: str) -> int:
-        """What the atoms of an operation take, which are written as JSON."""
-        count = atoms.count("[") - 1
+    def of_written(self, operations: Sequence[str]) -> int:
+        """What the atoms of operations take, which are written as JSON."""
+        text = "".join(operations)
+        count = text.count("[") - len(operations)
         if not self._shares:
             return count
-        found = ((name, rest.count(",")) for name, rest in _WRITTEN.findall(atoms))
+        found = ((name, rest.count(",")) for name, rest in _WRITTEN.findall(text))
         return count + self._more(found)
 
     def of_store(self, store: str) -> int:

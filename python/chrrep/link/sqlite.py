@@ -9,17 +9,18 @@ import os
 import sqlite3
 import threading
 import time
-from collections.abc import Callable, Iterator, Mapping, Sequence
+from collections.abc import Callable, Iterable, Iterator, Mapping, Sequence
 from contextlib import contextmanager, suppress
 from typing import Any, TypeAlias, TypeVar
 
 from ..names import check_name
+from ..texts import Id
 from .faults import LogUnusable, OriginShared, ProgramChanged
 from .log import (
     FIRST_EPOCH,
-    FORMAT,
     READ_AT_ONCE,
     SEAL_SECONDS,
+    Busy,
     Count,
     Entry,
     Heard,
@@ -36,6 +37,7 @@ from .log import (
     State,
     entries_of,
     has_more,
+    in_turn,
     is_among,
     known_format,
     new_log_id,
@@ -50,20 +52,31 @@ from .log import (
 from .telling import Batch
 
 PREFIX = "sqlite:///"
+FORMAT = 3
+"""The format of logs in files. In the one before it each operation had a row, and a log's store stood in the row that
+each append changes."""
 
 _PAUSE = 0.01
 """Seconds between two looks at the file's version."""
 _BUSY_SECONDS = 1.0
 _RENEWED_SECONDS = 1.0
 """Seconds that a lease has to have lost before an append renews it."""
+_ROW_LENGTH = 16_384
+"""Operations that are told at once share a row while their texts aren't longer."""
+_ROWS_AT_ONCE = 16
+"""Rows that are asked for at once, of which each may have a thousand operations."""
 _WAL_BYTES = 16_777_216
 
+# an append changes the row of a log, which is short therefore: program, position and store of a log stand in `states`,
+# and nothing in these columns. Nodes of the formats before look for them, and for the format
 _TABLES = """
     CREATE TABLE IF NOT EXISTS logs (
         log TEXT PRIMARY KEY, format INTEGER NOT NULL, epoch INTEGER NOT NULL, generation INTEGER NOT NULL,
         sealed_by TEXT NOT NULL, sealed_until REAL NOT NULL, position TEXT NOT NULL, program TEXT, store TEXT NOT NULL,
         id TEXT NOT NULL DEFAULT '', room INTEGER NOT NULL DEFAULT 0, appends INTEGER NOT NULL DEFAULT 0,
         place INTEGER NOT NULL DEFAULT 0) STRICT, WITHOUT ROWID;
+    CREATE TABLE IF NOT EXISTS states (
+        log TEXT PRIMARY KEY, program TEXT, position TEXT NOT NULL, store TEXT NOT NULL) STRICT, WITHOUT ROWID;
     CREATE TABLE IF NOT EXISTS origins (
         log TEXT, origin INTEGER, allotted INTEGER NOT NULL, writer TEXT NOT NULL, until REAL NOT NULL,
         PRIMARY KEY (log, origin)) STRICT, WITHOUT ROWID;
@@ -72,27 +85,33 @@ _TABLES = """
         PRIMARY KEY (log, origin)) STRICT, WITHOUT ROWID;
     CREATE TABLE IF NOT EXISTS entries (
         log TEXT, origin INTEGER CHECK (origin BETWEEN 0 AND 4294967294), number INTEGER CHECK (number > 0),
-        atoms TEXT NOT NULL, writer TEXT NOT NULL, PRIMARY KEY (log, origin, number)) STRICT, WITHOUT ROWID;
+        atoms TEXT NOT NULL, writer TEXT NOT NULL, count INTEGER NOT NULL DEFAULT 1 CHECK (count BETWEEN 1 AND number),
+        PRIMARY KEY (log, origin, number)) STRICT, WITHOUT ROWID;
     CREATE TABLE IF NOT EXISTS refused (
         log TEXT, origin INTEGER, number INTEGER, atoms TEXT NOT NULL, writer TEXT NOT NULL, reason TEXT NOT NULL,
         PRIMARY KEY (log, origin, number)) STRICT, WITHOUT ROWID;
     CREATE TABLE IF NOT EXISTS names (
         log TEXT, number INTEGER, name TEXT NOT NULL, place INTEGER NOT NULL, used INTEGER NOT NULL DEFAULT 0,
         PRIMARY KEY (log, number), UNIQUE (log, place)) STRICT, WITHOUT ROWID"""
-# what a file of the format before this one lacks
-_NEW_COLUMNS = """
+# what a file of the first format lacks
+_SECOND = """
     ALTER TABLE logs ADD COLUMN id TEXT NOT NULL DEFAULT '';
     ALTER TABLE logs ADD COLUMN room INTEGER NOT NULL DEFAULT 0;
     ALTER TABLE logs ADD COLUMN appends INTEGER NOT NULL DEFAULT 0;
     ALTER TABLE logs ADD COLUMN place INTEGER NOT NULL DEFAULT 0;
     ALTER TABLE names ADD COLUMN used INTEGER NOT NULL DEFAULT 0;
-    UPDATE logs SET format = 2, id = lower(hex(randomblob(16))),
+    UPDATE logs SET id = lower(hex(randomblob(16))),
         place = coalesce((SELECT max(place) FROM names WHERE log = logs.log), 0),
         room = (
             SELECT coalesce(sum(length(atoms) - length(replace(atoms, '[', '')) - 1), 0)
             FROM entries WHERE log = logs.log)
             + CASE store WHEN 'true' THEN 0 ELSE 1 + (length(store) - length(replace(store, ', ', ''))) / 2 END
     WHERE format = 1"""
+# what one of the second lacks
+_THIRD = f"""
+    ALTER TABLE entries ADD COLUMN count INTEGER NOT NULL DEFAULT 1;
+    INSERT INTO states SELECT log, program, position, store FROM logs WHERE format < {FORMAT};
+    UPDATE logs SET program = NULL, position = '[]', store = 'true', format = {FORMAT} WHERE format < {FORMAT}"""
 # each origin is found from the one before it by the key, so that no more rows are looked at than are given
 _NEWEST = """
     WITH RECURSIVE known(origin) AS (
@@ -103,27 +122,34 @@ _NEWEST = """
     SELECT origin, (SELECT max(number) FROM entries WHERE log = :log AND entries.origin = known.origin)
     FROM known WHERE origin IS NOT NULL"""
 _READ = """
-    SELECT origin, number, atoms, writer FROM entries
+    SELECT origin, number, atoms, writer, count FROM entries
     WHERE log = :log AND origin = :origin AND number > :number ORDER BY number LIMIT :limit"""
 _END = "SELECT coalesce(max(number), 0) FROM entries WHERE log = :log AND origin = :origin"
-_FIND = "SELECT atoms, writer FROM entries WHERE log = :log AND origin = :origin AND number = :number"
-# twice as fast as a row after the other
-_ADD = """
-    INSERT INTO entries (log, origin, number, atoms, writer)
-    SELECT :log, :origin, key, value, :writer FROM json_each(:rows)"""
-_ADD_ONE = "INSERT INTO entries (log, origin, number, atoms, writer) VALUES (:log, :origin, :number, :atoms, :writer)"
-# asks all that an append asks; where nothing is changed it is looked for why
-_COUNT = """
-    UPDATE logs SET room = room + :room, appends = appends + 1
-    WHERE log = :log AND id = :id AND epoch = :epoch AND room + :room <= :limit
-    AND (sealed_until < :now OR sealed_by = :writer) AND :before < :first
-    AND (SELECT writer FROM origins WHERE log = :log AND origin = :origin) = :writer
-    AND coalesce((SELECT max(number) FROM entries WHERE log = :log AND origin = :origin), 0) = :before"""
-_COUNT_AGAIN = """
-    UPDATE logs SET room = room + :room, appends = appends + 1 WHERE log = :log AND room + :room <= :limit"""
+_FIND = "SELECT atoms, writer, count FROM entries WHERE log = :log AND origin = :origin AND number = :number"
+# an append is one statement and so one transaction, which asks all that there is to be asked; a link makes this view
+# for itself, and the file doesn't have it
+_APPENDING = f"""
+    CREATE TEMP VIEW appending AS SELECT
+        '' AS log, '' AS id, 0 AS origin, '' AS writer, 0 AS epoch, 0 AS room, 0 AS most, 0.0 AS now, 0.0 AS until,
+        0 AS before, 0 AS number, 0 AS count, '' AS atoms;
+    CREATE TEMP TRIGGER append INSTEAD OF INSERT ON appending BEGIN
+        UPDATE logs SET room = room + new.room, appends = appends + 1
+        WHERE log = new.log AND id = new.id AND epoch = new.epoch AND room + new.room <= new.most
+        AND (sealed_by = new.writer OR sealed_until NOT BETWEEN new.now AND new.now + {SEAL_SECONDS})
+        AND (SELECT writer FROM origins WHERE log = new.log AND origin = new.origin) = new.writer
+        AND coalesce((SELECT max(number) FROM entries WHERE log = new.log AND origin = new.origin), 0) = new.before
+        AND new.before <= new.number - new.count;
+        SELECT RAISE(ABORT, 'the log is not as the link knows it') WHERE changes() = 0;
+        UPDATE origins SET until = new.until WHERE log = new.log AND origin = new.origin
+        AND until NOT BETWEEN new.until - {_RENEWED_SECONDS} AND new.until;
+        INSERT INTO entries (log, origin, number, atoms, writer, count)
+        VALUES (new.log, new.origin, new.number, new.atoms, new.writer, new.count);
+    END"""
+_APPEND = "INSERT INTO appending VALUES (?, ?, ?, ?, ?, ?, ?, ?, ?, ?, ?, ?, ?)"
+_ADD = "INSERT INTO entries (log, origin, number, atoms, writer, count) VALUES (?, ?, ?, ?, ?, ?)"
 # what keeps a link from appending, and the origin's greatest number
 _STAND = """
-    SELECT id, epoch, sealed_by, sealed_until,
+    SELECT id, epoch, sealed_by, sealed_until, room,
         (SELECT writer FROM origins WHERE log = :log AND origin = :origin),
         coalesce((SELECT max(number) FROM entries WHERE log = :log AND origin = :origin), 0)
     FROM logs WHERE log = :log"""
@@ -141,11 +167,18 @@ _FORGET = "DELETE FROM names WHERE log = :log AND used <= :appends AND number IN
 _NEW = """
     INSERT OR IGNORE INTO logs
         (log, format, epoch, generation, sealed_by, sealed_until, position, program, store, id)
-    VALUES (?, ?, ?, 0, '', 0.0, '[]', NULL, 'true', ?)"""
+    VALUES (:log, :format, :epoch, 0, '', 0.0, '[]', NULL, 'true', :id)"""
+_NEW_STATE = "INSERT OR IGNORE INTO states VALUES (:log, NULL, '[]', 'true')"
 _KEEP = """
-    UPDATE logs SET epoch = :epoch, program = :program, generation = :generation, position = :position, store = :store,
+    UPDATE logs SET epoch = :epoch, generation = :generation,
         room = :room + CASE WHEN :is_last THEN 0 ELSE max(0, room - :counted) END
     WHERE log = :log AND generation = :generation - 1"""
+_KEEP_STATE = "UPDATE states SET program = :program, position = :position, store = :store WHERE log = :log"
+_CUT = """
+    UPDATE entries SET atoms = :atoms, count = :count WHERE log = :log AND origin = :origin AND number = :number"""
+_STATE = """
+    SELECT id, format, epoch, states.program, generation, states.position, states.store
+    FROM logs JOIN states USING (log) WHERE log = :log"""
 
 T = TypeVar("T")
 
@@ -157,17 +190,21 @@ class _Away(Exception):
     """The file is locked by others for now."""
 
 
+_AWAY = (_Away, Busy)
+
+
 class SqliteLink(Link):
     """A link over a file of SQLite."""
+
+    format = FORMAT
 
     def __init__(self, url: str, origin: int | None, log: str, patience: float) -> None:
         super().__init__(patience, log)
         if not url.startswith(PREFIX) or url == PREFIX:
             raise ValueError(f"a log in a file is {PREFIX}PATH, not {url!r}")
         self.path = os.path.abspath(url.removeprefix(PREFIX))
-        self._lock = threading.Lock()
-        self._bell_lock = threading.Lock()
-        self._held_since = 0.0
+        self._lock = threading.RLock()
+        self._bell_lock = threading.RLock()
         self._engine = self._bell = self._patiently(self._opened, (_Away,))
         try:
             self._file = os.stat(self.path)
@@ -180,68 +217,61 @@ class SqliteLink(Link):
 
     @of_damaged
     def state(self) -> State:
-        columns = "id, format, epoch, program, generation, position, store"
-        id, format, epoch, program, generation, position, store = self._logs_row(columns)
-        known_format(format)
+        id, format, epoch, program, generation, position, store = self._row(_STATE)
+        known_format(format, FORMAT)
         self._check_id(id)
         kept = program_of(program) if program else None
         return State(whole(epoch), kept, whole(generation), position_of(position), str(store))
 
     @of_damaged
     def mark(self) -> Mark:
-        id, format, epoch, generation, position = self._logs_row("id, format, epoch, generation, position")
-        known_format(format)
+        id, format, epoch, _, generation, position, _ = self._row(_STATE)
+        known_format(format, FORMAT)
         self._check_id(id)
         return Mark(whole(epoch), whole(generation), position_of(position))
 
     @of_damaged
     def count(self) -> Count:
-        id, *counts = self._logs_row("id, appends, generation, room")
+        id, *counts = self._row("SELECT id, appends, generation, room FROM logs WHERE log = :log")
         self._check_id(id)
         return Count(*map(whole, counts))
 
     def begin(self, program: Program) -> None:
         text = program_text(program)
-        self._ask("UPDATE logs SET program = :program WHERE log = :log AND program IS NULL", program=text)
+        self._ask("UPDATE states SET program = :program WHERE log = :log AND program IS NULL", program=text)
 
-    @of_damaged
     def append(self, batch: Batch) -> None:
-        now = time.time()
-        values: dict[str, object] = {
-            "log": self.log,
-            "id": self.log_id,
-            "origin": self.origin,
-            "writer": self.writer,
-            "epoch": batch.epoch,
-            "room": batch.room,
-            "limit": self.room_limit,
-            "before": batch.before,
-            "first": batch.entries[0].id.number,
-            "now": now,
-        }
+        first, *others = _rows_of(batch.first.number, batch.texts)
+        is_one = not others and not batch.names
 
         def add(engine: sqlite3.Connection) -> None:
-            if not engine.execute(_COUNT, values).rowcount:
-                if self._is_done(engine, batch):
-                    return
-                if not engine.execute(_COUNT_AGAIN, values).rowcount:
-                    raise self._full(batch)
-            self._keep_names(engine, batch.names)
-            self._add(engine, batch.entries, values)
-            if now > self._held_since + _RENEWED_SECONDS and self._lease_until(engine, now + self.lease_seconds):
-                self._held_since = now
+            # a statement that is all of a transaction commits it too
+            batch.is_unsure = is_one
+            now = time.time()
+            asked = (self.log, self.log_id, self.origin, self.writer, batch.epoch, batch.room, self.room_limit, now)
+            try:
+                engine.execute(_APPEND, (*asked, now + self.lease_seconds, batch.before, *first))
+            except sqlite3.IntegrityError:
+                batch.is_unsure = False
+                return self._raise_why(engine, batch)
+            except sqlite3.Error as fault:
+                batch.is_unsure = is_one and not _is_away(fault)
+                raise
+            if not is_one:
+                rows = [(self.log, self.origin, number, text, self.writer, count) for number, count, text in others]
+                engine.executemany(_ADD, rows)
+                self._keep_names(engine, batch.names)
             # what follows is the commit
             batch.is_unsure = True
 
-        batch.is_unsure = False
-        self._write(add)
+        (self._use if is_one else self._write)(add)
         batch.is_unsure = False
 
+    @of_damaged
     def settle(self, entry: Entry) -> bool:
         def look(engine: sqlite3.Connection) -> bool:
             end = self._rows(engine, _END, origin=entry.id.origin)[0][0]
-            found = self._rows(engine, _FIND, origin=entry.id.origin, number=entry.id.number)
-            return is_among(entry, end, (found[0][0], found[0][1]) if found else None)
+            return is_among(entry, end, self._found(engine, entry.id))
 
         return self._use(look)
 
@@ -253,18 +283,19 @@ class SqliteLink(Link):
             version = self._version()
             entries = self._entries(after)
             left = end - time.monotonic()
-            if entries or left <= 0 or self._closing.is_set():
+            if entries or left <= 0 or self._closing.is_set:
                 # asked for after the entries: those that were missed were removed by a generation that is told
-                id, generation = self._logs_row("id, generation")
+                id, generation = self._row("SELECT id, generation FROM logs WHERE log = :log")
                 self._check_id(id)
                 return Reading(entries, whole(generation))
-            while self._version() == version and time.monotonic() < end and not self._closing.is_set():
+            while self._version() == version and time.monotonic() < end and not self._closing.is_set:
                 time.sleep(_PAUSE)
 
     @of_damaged
     def newest(self) -> dict[int, int]:
         return {whole(origin): whole(number) for origin, number in self._ask(_NEWEST)}
 
+    @of_damaged
     def keep(self, state: State, is_last: bool = False, rest: Rest = Rest()) -> bool:
         assert state.program
         values: dict[str, object] = {
@@ -286,8 +317,11 @@ class SqliteLink(Link):
                 return False
             if not engine.execute(_KEEP, values).rowcount:
                 return False
+            engine.execute(_KEEP_STATE, values)
             ends = [(self.log, *end) for end in state.position.items()]
             engine.executemany("DELETE FROM entries WHERE log = ? AND origin = ? AND number < ?", ends)
+            for origin, end in state.position.items():
+                self._cut(engine, origin, end)
             self._rows(engine, _FORGET, unused=json.dumps(list(rest.unused)), appends=rest.since.appends)
             return True
 
@@ -369,33 +403,37 @@ class SqliteLink(Link):
             try:
                 engine.execute("PRAGMA journal_mode = WAL")
                 engine.execute("PRAGMA synchronous = FULL")
+                engine.execute("PRAGMA temp_store = MEMORY")
                 engine.execute(f"PRAGMA journal_size_limit = {_WAL_BYTES}")
-                with _transaction(engine):
-                    self._make_tables(engine)
+                _in_transaction(engine, self._make_tables)
+                engine.executescript(_APPENDING)
             except BaseException:
                 engine.close()
                 raise
         return engine
 
     def _make_tables(self, engine: sqlite3.Connection) -> None:
-        columns = [name for _, name, *_ in engine.execute("PRAGMA table_info(logs)")]
-        if columns and "id" not in columns:
-            for change in _NEW_COLUMNS.split(";"):
-                engine.execute(change)
-        for table in _TABLES.split(";"):
-            engine.execute(table)
-        engine.execute(_NEW, (self.log, FORMAT, FIRST_EPOCH, new_log_id()))
+        logs, entries = (
+            [name for _, name, *_ in engine.execute(f"PRAGMA table_info({table})")] for table in ("logs", "entries")
+        )
+        is_first, is_second = logs and "id" not in logs, entries and "count" not in entries
+        changes = [_SECOND] * bool(is_first) + [_TABLES] + [_THIRD] * bool(is_second)
+        for change in ";".join(changes).split(";"):
+            engine.execute(change)
+        values = {"log": self.log, "format": FORMAT, "epoch": FIRST_EPOCH, "id": new_log_id()}
+        for query in (_NEW, _NEW_STATE):
+            engine.execute(query, values)
 
-    def _is_done(self, engine: sqlite3.Connection, batch: Batch) -> bool:
-        """Whether the log has the batch already; raises what keeps it from coming there."""
-        id, epoch, sealed_by, sealed_until, holder, end = self._stand(engine)
+    @of_damaged
+    def _raise_why(self, engine: sqlite3.Connection, batch: Batch) -> None:
+        """Raises what keeps the batch from the log, unless it is there already."""
+        rows = self._rows(engine, _STAND, origin=self.origin)
+        id, epoch, sealed_by, sealed_until, room, holder, end = rows[0] if rows else (None,) * 7
         self._check_id(id)
-        if end >= batch.entries[0].id.number:
-            last = batch.last
-            if end == last.id.number and self._rows(engine, _FIND, origin=self.origin, number=end) == [last[1:]]:
-                return True
-            raise OriginShared(self.origin)
-        if holder != self.writer:
+        last = batch.last
+        if end == last.id.number and self._found(engine, last.id) == (last.atoms, last.writer):
+            return
+        if end >= batch.first.number or holder != self.writer:
             raise OriginShared(self.origin)
         if epoch != batch.epoch:
             raise ProgramChanged
@@ -403,22 +441,25 @@ class SqliteLink(Link):
         if sealed_by != self.writer and 0 < sealed_until - time.time() <= SEAL_SECONDS:
             raise Sealed
         self._check_end(end, batch)
-        return False
+        if room + batch.room > self.room_limit:
+            raise self._full(batch)
+        # what kept it is over by now
+        raise Sealed
 
-    def _add(self, engine: sqlite3.Connection, entries: Sequence[Entry], values: dict[str, object]) -> None:
-        """Puts entries into the log, in which they are not."""
-        if len(entries) == 1:
-            id, atoms, _ = entries[0]
-            one: dict[str, object] = {"number": id.number, "atoms": atoms}
-            engine.execute(_ADD_ONE, values | one)
-        else:
-            rows: dict[str, object] = {"rows": json.dumps({entry.id.number: entry.atoms for entry in entries})}
-            engine.execute(_ADD, values | rows)
+    def _found(self, engine: sqlite3.Connection, id: Id) -> tuple[str, str] | None:
+        """Atoms and writer of the operation that is the last of its row."""
+        for atoms, writer, count in self._rows(engine, _FIND, origin=id.origin, number=id.number):
+            return _lines_of(atoms, count)[-1], writer
+        return None
 
-    def _stand(self, engine: sqlite3.Connection) -> Row:
-        rows = self._rows(engine, _STAND, origin=self.origin)
-        return rows[0] if rows else (None,) * 6
+    def _cut(self, engine: sqlite3.Connection, origin: int, end: int) -> None:
+        """Removes operations before this one from the row that it is in."""
+        for _, number, atoms, _, count in self._rows(engine, _READ, origin=origin, number=end - 1, limit=1):
+            if number - count < end - 1:
+                left = _lines_of(atoms, count)[end - 1 - number:]
+                self._rows(engine, _CUT, origin=origin, number=number, atoms="\n".join(left), count=len(left))
 
+    @of_damaged
     def _keep_names(self, engine: sqlite3.Connection, names: Mapping[int, str]) -> None:
         """Has the log keep these names, as used by now. Raises `NameClash`."""
         if not names:
@@ -433,17 +474,28 @@ class SqliteLink(Link):
 
     def _entries(self, after: Position) -> list[Entry]:
         def read(engine: sqlite3.Connection) -> list[Entry]:
-            rows: list[Row] = []
+            entries: list[Entry] = []
             for origin, number in self._rows(engine, _NEWEST):
                 if number > (held := after.get(origin, 0)):
-                    rows += self._rows(engine, _READ, origin=origin, number=held, limit=READ_AT_ONCE)
-            return list(entries_of(rows))
+                    entries += self._of_origin(engine, origin, held)
+            return entries
 
         return self._use(read)
 
-    def _logs_row(self, columns: str) -> Row:
-        """What the log's row has in these columns."""
-        rows = self._ask(f"SELECT {columns} FROM logs WHERE log = :log")
+    def _of_origin(self, engine: sqlite3.Connection, origin: int, held: int) -> list[Entry]:
+        """The first entries of an origin beyond this number."""
+        found: list[Entry] = []
+        after, is_more = held, True
+        while is_more and len(found) < READ_AT_ONCE:
+            rows = self._rows(engine, _READ, origin=origin, number=after, limit=_ROWS_AT_ONCE)
+            found += [entry for entry in entries_of(_operations_of(rows)) if entry.id.number > held]
+            is_more = len(rows) == _ROWS_AT_ONCE
+            after = found[-1].id.number if found else after
+        return found[:READ_AT_ONCE]
+
+    def _row(self, query: str) -> Row:
+        """The one row of a query for the log's state."""
+        rows = self._ask(query)
         if not rows:
             self._check_id(None)
         return rows[0]
@@ -463,39 +515,23 @@ class SqliteLink(Link):
     def _write(self, call: Callable[[sqlite3.Connection], T]) -> T:
         """The result of a call whose changes are made all at once or not at all."""
 
-        def whole(engine: sqlite3.Connection) -> T:
-            engine.execute("BEGIN IMMEDIATE")
-            try:
-                result = call(engine)
-                engine.execute("COMMIT")
-            except BaseException:
-                if engine.in_transaction:
-                    engine.execute("ROLLBACK")
-                raise
-            return result
-
-        return self._use(whole)
+        return self._use(lambda engine: _in_transaction(engine, call))
 
     def _use(self, call: Callable[[sqlite3.Connection], T]) -> T:
-        def use(left: float) -> T:
-            if not self._lock.acquire(timeout=left):
-                raise _Away("another call is made")
-            try:
-                self._check_file()
-                return call(self._engine)
-            except sqlite3.Error as fault:
-                raise self._fault_of(fault) from fault
-            finally:
-                self._lock.release()
-
-        return self._patiently(use, (_Away,))
+        return self._patiently(lambda left: self._called(self._lock, self._engine, call, left), _AWAY)
 
     def _version(self) -> int:
-        def ask(left: float) -> int:
-            with _taken(self._bell_lock, left), self._faults():
-                return int(self._bell.execute("PRAGMA data_version").fetchone()[0])
+        return self._patiently(lambda left: self._called(self._bell_lock, self._bell, _version_of, left), _AWAY)
 
-        return self._patiently(ask, (_Away,))
+    def _called(
+        self, lock: threading._RLock, engine: sqlite3.Connection, call: Callable[[sqlite3.Connection], T], left: float
+    ) -> T:
+        """The result of a call over a connection, which makes one at a time."""
+        self._check_file()
+        try:
+            return in_turn(lock, left, call, engine)
+        except sqlite3.Error as fault:
+            raise self._fault_of(fault) from fault
 
     def _check_file(self) -> None:
         """Raises where the path leads to another file by now, or to none: nodes that come would share nothing."""
@@ -503,7 +539,7 @@ class SqliteLink(Link):
             now = os.stat(self.path)
         except OSError as fault:
             raise LogUnusable(f"the log's file is gone: {fault}") from fault
-        if not os.path.samestat(now, self._file):
+        if now.st_ino != self._file.st_ino or now.st_dev != self._file.st_dev:
             raise LogUnusable(f"the log's file was put in the place of another: {self.path}")
 
     @contextmanager
@@ -515,20 +551,44 @@ class SqliteLink(Link):
             raise self._fault_of(fault) from fault
 
     def _fault_of(self, fault: sqlite3.Error) -> Exception:
-        kind = getattr(fault, "sqlite_errorname", "")
-        if kind.startswith(("SQLITE_BUSY", "SQLITE_LOCKED")) or self._closing.is_set():
+        if _is_away(fault) or self._closing.is_set:
             return _Away(str(fault))
         return LogUnusable(f"the log in {self.path} can't be used: {one_line(fault)}")
 
 
-@contextmanager
-def _taken(lock: threading.Lock, seconds: float) -> Iterator[None]:
-    if not lock.acquire(timeout=seconds):
-        raise _Away("another call is made")
-    try:
-        yield
-    finally:
-        lock.release()
+def _version_of(engine: sqlite3.Connection) -> int:
+    """What changes where another connection changes the file."""
+    return int(engine.execute("PRAGMA data_version").fetchone()[0])
+
+
+def _is_away(fault: sqlite3.Error) -> bool:
+    """Whether others lock the file."""
+    return getattr(fault, "sqlite_errorname", "").startswith(("SQLITE_BUSY", "SQLITE_LOCKED"))
+
+
+def _rows_of(first: int, texts: Sequence[str]) -> list[tuple[int, int, str]]:
+    """The rows that operations of numbers from the first on have: the number of the last, how many, and their texts."""
+    text, count = "\n".join(texts), len(texts)
+    # a link writes no text with an end of line, but others may have it do so
+    if count == 1 or len(text) <= _ROW_LENGTH and text.count("\n") == count - 1:
+        return [(first + count - 1, count, text)]
+    half = count // 2
+    return _rows_of(first, texts[:half]) + _rows_of(first + half, texts[half:])
+
+
+def _lines_of(atoms: str, count: int) -> list[str]:
+    """The texts of the operations of a row."""
+    lines = atoms.split("\n") if count != 1 else [atoms]
+    if len(lines) != count:
+        raise ValueError(f"a row has {len(lines)} operations, and not {count}")
+    return lines
+
+
+def _operations_of(rows: Iterable[Row]) -> Iterator[Row]:
+    """A row for each operation of rows that have origin, number, atoms, writer and count."""
+    for origin, number, atoms, writer, count in rows:
+        for at, text in enumerate(_lines_of(atoms, count), whole(number) - count + 1):
+            yield origin, at, text, writer
 
 
 def _as_texts(engine: sqlite3.Connection, query: str, values: dict[str, object]) -> list[Row]:
@@ -544,13 +604,15 @@ def _text_of(kept: bytes) -> str:
     return kept.decode(errors="replace")
 
 
-@contextmanager
-def _transaction(engine: sqlite3.Connection) -> Iterator[None]:
-    engine.execute("BEGIN IMMEDIATE")
+def _in_transaction(engine: sqlite3.Connection, call: Callable[[sqlite3.Connection], T]) -> T:
+    """The result of a call whose changes are made all at once or not at all."""
     try:
-        yield
+        # an interrupt that comes once it has begun ends it
+        engine.execute("BEGIN IMMEDIATE")
+        result = call(engine)
         engine.execute("COMMIT")
     except BaseException:
         if engine.in_transaction:
             engine.execute("ROLLBACK")
         raise
+    return result

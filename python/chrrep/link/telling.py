@@ -1,27 +1,31 @@
 """What becomes of operations that are told: what is in the log, what may be there, and what isn't."""
 
-from collections.abc import Mapping, Sequence
-from dataclasses import dataclass
-from typing import TYPE_CHECKING, NamedTuple
+from collections.abc import Callable, Mapping, Sequence
+from dataclasses import dataclass, replace
+from itertools import repeat
+from typing import NamedTuple
 
 from ..texts import Atom, Id
-
-if TYPE_CHECKING:
-    from .log import Entry
+from .log import Entry
 
 Operations = list[tuple[Atom, ...]]
+
+# thrice as fast as `Id` itself
+_new: Callable[[type[Id], tuple[int, int]], Id] = tuple.__new__
 
 
 @dataclass(slots=True)
 class Batch:
-    """Entries that are appended at once, all or none, and what the log has to be like for that.
+    """Operations that are appended at once, all or none, and what the log has to be like for that.
 
-    `before` is the greatest number of the origin that the log has, as far as the member knows; `room` is what the
-    entries take of it, and `names` are those of the numbers in them. `is_unsure` says, after an append that raised,
-    whether the entries may be in the log all the same.
+    Their atoms are `texts`, and their ids the `first` and those that follow it. `before` is the greatest number of the
+    origin that the log has, as far as the member knows; `room` is what they take of it, and `names` are those of the
+    numbers in them. `is_unsure` says, after an append that raised, whether they may be in the log all the same.
     """
 
-    entries: "Sequence[Entry]"
+    first: Id
+    texts: Sequence[str]
+    writer: str
     epoch: int
     before: int
     room: int
@@ -29,8 +33,40 @@ class Batch:
     is_unsure: bool = True
 
     @property
-    def last(self) -> "Entry":
-        return self.entries[-1]
+    def end(self) -> int:
+        """The number of the last."""
+        return self.first.number + len(self.texts) - 1
+
+    @property
+    def last(self) -> Entry:
+        return Entry(Id(self.first.origin, self.end), self.texts[-1], self.writer)
+
+    @property
+    def ids(self) -> list[Id]:
+        origin, first = self.first
+        if len(self.texts) == 1:
+            return [self.first]
+        return list(map(_new, repeat(Id), zip(repeat(origin), range(first, first + len(self.texts)))))
+
+    @property
+    def entries(self) -> list[Entry]:
+        return list(map(Entry._make, zip(self.ids, self.texts, repeat(self.writer))))
+
+    @property
+    def halves(self) -> "tuple[Batch, Batch]":
+        """The same operations in two parts."""
+        half = len(self.texts) // 2
+        rest = Id(self.first.origin, self.first.number + half)
+        return replace(self, texts=self.texts[:half]), replace(self, first=rest, texts=self.texts[half:])
+
+    def delta(self) -> str:
+        """The operations as a delta has them, without its brackets. A text that a node takes has no sign of percent."""
+        origin, first = self.first
+        if len(self.texts) == 1:
+            return f"[[{origin},{first}],{self.texts[0]}]"
+        begin = f"[[{origin},%d],"
+        numbers = tuple(range(first, first + len(self.texts)))
+        return f"{begin}{f'],{begin}'.join(self.texts)}]" % numbers
 
 
 class Outcome(NamedTuple):
@@ -47,21 +83,22 @@ class Tell:
     def __init__(self, operations: Operations) -> None:
         self.operations = operations
         self.told: list[Id] = []
-        self.unsure: "Sequence[Entry]" = ()
+        self.unsure: Batch | None = None
 
     @property
     def rest(self) -> Operations:
         """The operations that are not known to be in the log."""
-        return self.operations[len(self.told):]
+        return self.operations[len(self.told):] if self.told else self.operations
 
     def settle(self, is_there: bool) -> None:
         """Takes notice of whether what was unsure is in the log."""
-        if is_there:
-            self.told += [entry.id for entry in self.unsure]
-        self.unsure = ()
+        ids = self.unsure.ids if is_there and self.unsure else ()
+        # no call stands between these, and so no interrupt
+        self.told += ids
+        self.unsure = None
 
     def outcome(self) -> Outcome:
-        return Outcome(tuple(self.told), tuple(entry.id for entry in self.unsure))
+        return Outcome(tuple(self.told), tuple(self.unsure.ids) if self.unsure else ())
 
     def leave_by(self, fault: BaseException) -> None:
         """Has an exception say what became of the operations; `tell_of` finds them."""

@@ -1,6 +1,8 @@
 """Operations as a node takes them, written without asking it."""
 
 from collections.abc import Iterable, Sequence
+from itertools import chain, islice
+from operator import itemgetter
 from typing import Any
 
 from ..texts import OPERATION_LIMIT, Atom
@@ -8,6 +10,10 @@ from ..texts import OPERATION_LIMIT, Atom
 _LEAST, _GREATEST = -(2**63), 2**63 - 1
 _LONGEST = 100_000
 """Bytes of an operation's atoms, far below what a line may have."""
+_SEQUENCES = frozenset((tuple, list))
+_NUMBERS = frozenset((int,))
+_name_of = itemgetter(0)
+_arguments_of = itemgetter(slice(1, None))
 
 
 class Writing:
@@ -25,34 +31,53 @@ class Writing:
                 if type(name) is str and name.isidentifier() and name.isascii():
                     self._forms[name, len(atom)] = f'["{name}"{",%d" * (len(atom) - 1)}]'
 
-    def texts(self, operations: Iterable[Sequence[Atom]]) -> list[str] | None:
+    def texts(self, operations: Sequence[Sequence[Any]]) -> list[str] | None:
         """The atoms of each operation as compact JSON; None where the node has to be asked of one."""
-        texts: list[str] = []
-        try:
-            for atoms in operations:
-                parts = [self._atom_text(atom) for atom in atoms]
-                text = f"[{','.join(parts)}]"
-                if not 1 <= len(parts) <= OPERATION_LIMIT or len(text) > _LONGEST:
-                    return None
-                texts.append(text)
-        except _Other:
-            return None
-        return texts
+        if len(operations) == 1 and len(operations[0]) == 1:
+            text = self._text(operations[0][0])
+            return None if text is None else [text]
+        return self._many(operations)
 
-    def _atom_text(self, atom: Any) -> str:
-        # an atom may be anything, as users give it
+    def _text(self, atom: Any) -> str | None:
+        """An operation of this one atom."""
+        # it may be anything, as users give it
         if type(atom) is not tuple and type(atom) is not list or not atom or type(atom[0]) is not str:
-            raise _Other
+            return None
         form = self._forms.get((atom[0], len(atom)))
         if form is None:
-            raise _Other
-        arguments = tuple(atom[1:])
-        for argument in arguments:
+            return None
+        for value in (values := tuple(atom[1:])):
             # a bool is an int of Python
-            if type(argument) is not int or not _LEAST <= argument <= _GREATEST:
-                raise _Other
-        return form % arguments
+            if type(value) is not int or not _LEAST <= value <= _GREATEST:
+                return None
+        text = f"[{form}]" % values
+        return text if len(text) <= _LONGEST else None
 
+    def _many(self, operations: Sequence[Sequence[Any]]) -> list[str] | None:
+        """Many operations, written by few calls of which each goes through all of them."""
+        sizes = list(map(len, operations))
+        atoms = list(chain.from_iterable(operations))
+        values = self._values_of(atoms)
+        if values is None or not sizes or min(sizes) < 1 or max(sizes) > OPERATION_LIMIT:
+            return None
+        try:
+            forms = list(map(self._forms.__getitem__, zip(map(_name_of, atoms), map(len, atoms))))
+        except (KeyError, TypeError):
+            return None
+        if len(atoms) > len(sizes):
+            left = iter(forms)
+            forms = [",".join(islice(left, size)) for size in sizes]
+        # a text has no end of line
+        written = "[" + "]\n[".join(forms) + "]"
+        texts = (written % values).split("\n")
+        return texts if max(map(len, texts)) <= _LONGEST else None
 
-class _Other(Exception):
-    """An atom of which the node has to be asked."""
+    def _values_of(self, atoms: list[Any]) -> tuple[int, ...] | None:
+        """All arguments of atoms; None where one is none, or something is no atom."""
+        # they may be anything, as users give them
+        if not _SEQUENCES.issuperset(map(type, atoms)) or not all(atoms):
+            return None
+        values = tuple(chain.from_iterable(map(_arguments_of, atoms)))
+        if not _NUMBERS.issuperset(map(type, values)):
+            return None
+        return values if not values or _LEAST <= min(values) and max(values) <= _GREATEST else None
