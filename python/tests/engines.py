@@ -44,6 +44,10 @@ class Engine(ABC):
     def write_state(self, log: str, field: str, value: str | int) -> None:
         """Writes into a field of a log's state."""
 
+    def write_id(self, log: str, id: str) -> None:
+        """Writes an id into a log, as if it had been drawn before."""
+        self.write_state(log, "id", id)
+
     @abstractmethod
     def write_lease(self, log: str, origin: int, seconds: float) -> None:
         """Has a link that isn't there hold an origin for so many seconds from now on."""
@@ -374,6 +378,10 @@ class Postgres(Server):
 
     def write_state(self, log: str, field: str, value: str | int) -> None:
         self.run(f'UPDATE "{log}:state" SET {field} = %s', value)
+
+    def write_id(self, log: str, id: str) -> None:
+        super().write_id(log, id)
+        self.run(f'UPDATE "{log}" SET atoms = %s WHERE origin = -1', id)
 
     def write_lease(self, log: str, origin: int, seconds: float) -> None:
         self.run(

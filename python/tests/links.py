@@ -290,6 +290,41 @@ class Logs(Links):
         self.put(one, [one.entry(11, [("a", 1)])], 2)
         self.assertEqual(two.read({1: 10, 2: 10}), ([one.entry(11, [("a", 1)])], 2))
 
+    def test_an_id_is_drawn_with_the_program(self) -> None:
+        """In one step; links that were there before come to know it, and a log never has another."""
+        early, other = self.link(), self.link()
+        self.assertEqual((early.log_id, other.log_id), ("", ""))
+        with patch(f"{type(early).__module__}.new_log_id", side_effect=ZeroDivisionError):
+            with self.assertRaises(ZeroDivisionError):
+                early.begin(Program(PATHS.encode()))
+        self.assertEqual((early.state().program, early.log_id), (None, ""))
+        member = self.stack.enter_context(Member(early, PLAIN))
+        self.assertRegex(early.log_id, "^[0-9a-f]{32}$")
+        other.begin(Program(MARKED.encode()))
+        self.assertEqual((other.state().program, other.log_id), (Program(PLAIN.encode()), early.log_id))
+        self.assertEqual(self.link().log_id, early.log_id)
+        member.upgrade(PLAIN + "% other\n")
+        self.assertEqual(self.link().log_id, early.log_id)
+
+    def test_an_id_that_was_drawn_before_the_program_stays(self) -> None:
+        self.link().close()
+        self.engine.write_id(self.log, "x" * 32)
+        member = self.member(PLAIN)
+        member.tell(("a", 1))
+        self.assertEqual((member.link.log_id, self.link().log_id), ("x" * 32, "x" * 32))
+
+    def test_a_link_that_was_there_before_the_program_appends(self) -> None:
+        early = self.link()
+        member = self.member(PLAIN)
+        self.put(early, [early.entry(1, [("a", 1)])])
+        self.assertEqual(member.show(), (("a", 1),))
+
+    def test_a_log_that_is_lost_before_it_has_a_program(self) -> None:
+        link = self.link()
+        self.engine.lose(self.log)
+        with self.assertRaisesRegex(LinkLost, "has lost"):
+            Member(link, PLAIN)
+
     def test_what_is_set_aside_is_kept_once(self) -> None:
         link = self.link(1)
         self.assertEqual(link.refused(), [])

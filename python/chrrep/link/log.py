@@ -326,7 +326,8 @@ class Link(ABC):
 
     origin: int
     log_id: str
-    """What tells this log from others, also from one that stands in its place after the engine has lost it."""
+    """What tells this log from others, also from one that stands in its place after the engine has lost it. It is drawn
+    with the log's program; a log that has none has no id."""
 
     format = FORMAT
     lease_seconds = LEASE_SECONDS
@@ -337,6 +338,7 @@ class Link(ABC):
     def __init__(self, patience: float = PATIENCE, log: str = LOG_NAME) -> None:
         check_log_name(log)
         self.log = log
+        self.log_id = ""
         self.patience = patience
         self.position = dict
         self.writer = secrets.token_hex(8)
@@ -360,7 +362,7 @@ class Link(ABC):
 
     @abstractmethod
     def begin(self, program: Program) -> None:
-        """Gives the log this program where it has none."""
+        """Gives the log this program where it has none, and an id, in one step."""
 
     @abstractmethod
     def append(self, batch: "Batch") -> None:
@@ -522,7 +524,9 @@ class Link(ABC):
                 self._renewed = time.monotonic()
 
     def _check_id(self, found: str | None) -> None:
-        """Raises `LogLost` where the log is not the one that was joined."""
+        """Raises `LogLost` where the log is not the one that was joined. One that had no program then has got its id
+        since, with that."""
+        self.log_id = self.log_id or found or ""
         if found != self.log_id:
             raise LogLost("what is there now is another log" if found else "nothing is there any more")
 

@@ -93,7 +93,8 @@ _TABLES = f"""
     ALTER TABLE {{names}} ADD COLUMN IF NOT EXISTS used bigint NOT NULL DEFAULT 0;
     INSERT INTO {{state}} VALUES (true, {FORMAT - 1}, {FIRST_EPOCH}, NULL, 0, '[]', 'true', '', now())
     ON CONFLICT DO NOTHING;
-    UPDATE {{state}} SET format = {FORMAT}, id = %(id)s, place = coalesce((SELECT max(place) FROM {{names}}), 0),
+    UPDATE {{state}} SET format = {FORMAT}, id = CASE WHEN program IS NULL THEN '' ELSE %(id)s END,
+        place = coalesce((SELECT max(place) FROM {{names}}), 0),
         room = coalesce((
             SELECT sum(greatest(0, length(atoms) - length(replace(atoms, '[', '')) - 1)) FROM {{log}}), 0)
             + CASE store WHEN 'true' THEN 0 ELSE 1 + (length(store) - length(replace(store, ', ', ''))) / 2 END
@@ -101,6 +102,11 @@ _TABLES = f"""
     INSERT INTO {{log}} (origin, number, writer, atoms) SELECT {{mark}}, 0, '', id FROM {{state}}
     ON CONFLICT DO NOTHING"""
 _ID = "CASE WHEN EXISTS (SELECT FROM {log} WHERE origin = {mark} AND atoms = id) THEN id END"
+_BEGIN = f"""
+    WITH begun AS (
+        UPDATE {{state}} SET program = %(program)s, id = CASE id WHEN '' THEN %(new)s ELSE id END
+        WHERE program IS NULL AND {_ID} = %(id)s RETURNING id)
+    UPDATE {{log}} SET atoms = begun.id FROM begun WHERE origin = {{mark}}"""
 # each origin is found from the one before it by the key, so that no more rows are looked at than are given
 _ORIGINS = """
     WITH RECURSIVE origins(origin) AS (
@@ -321,12 +327,10 @@ class PostgresLink(Link):
         return Count(*map(whole, counts))
 
     def begin(self, program: Program) -> None:
-        query = f"UPDATE {{state}} SET program = %(program)s WHERE program IS NULL AND {_ID} = %(id)s"
-        self._ask(query, program=program_text(program), id=self.log_id)
+        self._ask(_BEGIN, program=program_text(program), id=self.log_id, new=new_log_id())
 
     def append(self, batch: Batch) -> None:
         values = {
-            "id": self.log_id,
             "origin": self.origin,
             "writer": self.writer,
             "numbers": list(range(batch.first.number, batch.end + 1)),
@@ -343,7 +347,7 @@ class PostgresLink(Link):
         def add() -> None:
             before, batch.is_unsure = batch.is_unsure, True
             try:
-                is_added = self._add(batch, values)
+                is_added = self._add(batch, {"id": self.log_id, **values})
             except (*_UNDONE, NameClash, errors.UniqueViolation):
                 batch.is_unsure = before
                 raise
@@ -454,9 +458,8 @@ class PostgresLink(Link):
         known_format(self._ask("SELECT format FROM {state}")[0][0])
         # the lock is had when what a dead node was appending is in the log, or never will be
         self._ask("BEGIN; LOCK TABLE {log} IN SHARE MODE; COMMIT")
-        self.log_id = self._state_row("generation")[0] or ""
-        if not self.log_id:
-            self._check_id(None)
+        self.log_id = ""
+        self._check_id(self._state_row("generation")[0])
 
     @of_damaged
     def _leases(self) -> dict[int, Lease]:

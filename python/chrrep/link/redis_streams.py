@@ -108,7 +108,8 @@ _OPEN = _FIELDS + f"""
     end
     local named = redis.call('LRANGE', KEYS[3], 0, -1)
     for place, number in ipairs(named) do redis.call('ZADD', KEYS[4], place, number) end
-    redis.call('HSET', KEYS[1], 'format', {FORMAT}, 'id', ARGV[2], 'room', room, 'place', #named)
+    local id = redis.call('HGET', KEYS[1], 'program') and ARGV[2] or ''
+    redis.call('HSET', KEYS[1], 'format', {FORMAT}, 'id', id, 'room', room, 'place', #named)
     redis.call('DEL', KEYS[3], KEYS[6])"""
 # KEYS: state, leases, stream, names, places, used. ARGV: id, origin, writer, fence, milliseconds of a lease and of a
 # seal, epoch, number before, room, its limit, number of names, number and text of each name, number and atoms of each
@@ -197,11 +198,13 @@ _KEEP = _FIELDS + """
         end
     end
     return {'done'}"""
-# KEYS: state. ARGV: id, program
+# KEYS: state. ARGV: id, program, id of a log that has none
 _BEGIN = """
     local id = redis.call('HGET', KEYS[1], 'id')
     if id ~= ARGV[1] then return {'lost', id or ''} end
-    redis.call('HSETNX', KEYS[1], 'program', ARGV[2])
+    if redis.call('HSETNX', KEYS[1], 'program', ARGV[2]) == 1 and id == '' then
+        redis.call('HSET', KEYS[1], 'id', ARGV[3])
+    end
     return {'done'}"""
 # KEYS: state. ARGV: writer, milliseconds
 _SEAL = _NOW + """
@@ -283,12 +286,13 @@ class RedisLink(Link):
         return Count(*map(_int, counts))
 
     def begin(self, program: Program) -> None:
-        self._said(lambda: self._run(_BEGIN, [self._key("state")], [self.log_id, program_text(program)]))
+        words = [program_text(program), new_log_id()]
+        self._said(lambda: self._run(_BEGIN, [self._key("state")], [self.log_id, *words]))
 
     @of_damaged
     def append(self, batch: Batch) -> None:
         keys = self._keys("state", "leases", self.origin, "names", "places", "used")
-        fixed = [self.log_id, self.origin, self.writer, self._fence, self._lease_milliseconds, _SEAL_MILLISECONDS]
+        fixed = [self.origin, self.writer, self._fence, self._lease_milliseconds, _SEAL_MILLISECONDS]
         needed = [batch.epoch, batch.before, batch.room, self.room_limit, len(batch.names)]
         names = [word for pair in batch.names.items() for word in pair]
         words = [word for operation in enumerate(batch.texts, batch.first.number) for word in operation]
@@ -296,7 +300,7 @@ class RedisLink(Link):
 
         def add() -> list[str]:
             before, batch.is_unsure = batch.is_unsure, True
-            said: list[str] = self._run(_APPEND, keys, [*fixed, *needed, *names, *words])
+            said: list[str] = self._run(_APPEND, keys, [self.log_id, *fixed, *needed, *names, *words])
             batch.is_unsure = before
             if said[0] == "sealed":
                 raise Sealed
@@ -310,8 +314,8 @@ class RedisLink(Link):
     @of_damaged
     def settle(self, entry: Entry) -> bool:
         keys = self._keys("state", "leases", entry.id.origin)
-        words = [self.log_id, entry.id.origin, self.writer, entry.id.number]
-        _, fence, last, atoms, writer = self._said(lambda: self._run(_SETTLE, keys, words))
+        words = [entry.id.origin, self.writer, entry.id.number]
+        _, fence, last, atoms, writer = self._said(lambda: self._run(_SETTLE, keys, [self.log_id, *words]))
         if entry.id.origin == self.origin:
             self._fence = int(fence)
         found = None if atoms is None or writer is None else (atoms, writer)
@@ -347,8 +351,8 @@ class RedisLink(Link):
         ends = [word for end in state.position.items() for word in end]
         keys = self._keys("state", "origins", "names", "places", "used")
         counted = [rest.room, rest.since.room, rest.since.appends, len(words), len(rest.unused)]
-        values = [self.log, self.log_id, state.generation - 1, int(is_last), *counted, *words, *rest.unused, *ends]
-        said: str = self._said(lambda: self._run(_KEEP, keys, values))[0]
+        values = [state.generation - 1, int(is_last), *counted, *words, *rest.unused, *ends]
+        said: str = self._said(lambda: self._run(_KEEP, keys, [self.log, self.log_id, *values]))[0]
         return said == "done"
 
     @of_damaged
@@ -456,6 +460,8 @@ class RedisLink(Link):
         said = self._ask(call)
         if said[0] == "lost":
             self._check_id(said[1] or None)
+            # the log has got its id since
+            said = self._ask(call)
         return said
 
     def _raise_why(self, batch: Batch, said: str, more: list[str]) -> None:

@@ -166,8 +166,9 @@ _NAME = """
 _FORGET = "DELETE FROM names WHERE log = :log AND used <= :appends AND number IN (SELECT value FROM json_each(:unused))"
 _NEW = """
     INSERT OR IGNORE INTO logs
-        (log, format, epoch, generation, sealed_by, sealed_until, position, program, store, id)
-    VALUES (:log, :format, :epoch, 0, '', 0.0, '[]', NULL, 'true', :id)"""
+        (log, format, epoch, generation, sealed_by, sealed_until, position, program, store)
+    VALUES (:log, :format, :epoch, 0, '', 0.0, '[]', NULL, 'true')"""
+_BEGIN = "UPDATE states SET program = :program WHERE log = :log AND program IS NULL"
 _NEW_STATE = "INSERT OR IGNORE INTO states VALUES (:log, NULL, '[]', 'true')"
 _KEEP = """
     UPDATE logs SET epoch = :epoch, generation = :generation,
@@ -209,7 +210,7 @@ class SqliteLink(Link):
         try:
             self._file = os.stat(self.path)
             self._bell = self._patiently(self._opened, (_Away,))
-            self.log_id = self._ask("SELECT id FROM logs WHERE log = :log")[0][0]
+            self._use(self._check_row)
             self._take_origin(origin)
         except BaseException:
             self._let_go()
@@ -237,8 +238,14 @@ class SqliteLink(Link):
         return Count(*map(whole, counts))
 
     def begin(self, program: Program) -> None:
-        text = program_text(program)
-        self._ask("UPDATE states SET program = :program WHERE log = :log AND program IS NULL", program=text)
+        values = {"log": self.log, "program": program_text(program), "id": new_log_id()}
+
+        def give(engine: sqlite3.Connection) -> None:
+            self._check_row(engine)
+            if engine.execute(_BEGIN, values).rowcount:
+                engine.execute("UPDATE logs SET id = :id WHERE log = :log AND id = ''", values)
+
+        self._write(give)
 
     def append(self, batch: Batch) -> None:
         first, *others = _rows_of(batch.first.number, batch.texts)
@@ -311,7 +318,7 @@ class SqliteLink(Link):
         }
 
         def put(engine: sqlite3.Connection) -> bool:
-            self._check_id(self._rows(engine, "SELECT id FROM logs WHERE log = :log")[0][0])
+            self._check_row(engine)
             newest = {origin: number for origin, number in self._rows(engine, _NEWEST)}
             if is_last and has_more(newest, state.position):
                 return False
@@ -420,7 +427,7 @@ class SqliteLink(Link):
         changes = [_SECOND] * bool(is_first) + [_TABLES] + [_THIRD] * bool(is_second)
         for change in ";".join(changes).split(";"):
             engine.execute(change)
-        values = {"log": self.log, "format": FORMAT, "epoch": FIRST_EPOCH, "id": new_log_id()}
+        values = {"log": self.log, "format": FORMAT, "epoch": FIRST_EPOCH}
         for query in (_NEW, _NEW_STATE):
             engine.execute(query, values)
 
@@ -492,6 +499,11 @@ class SqliteLink(Link):
             is_more = len(rows) == _ROWS_AT_ONCE
             after = found[-1].id.number if found else after
         return found[:READ_AT_ONCE]
+
+    def _check_row(self, engine: sqlite3.Connection) -> None:
+        """Raises `LogLost` where the file has the log no more, or another one."""
+        rows = self._rows(engine, "SELECT id FROM logs WHERE log = :log")
+        self._check_id(rows[0][0] if rows else None)
 
     def _row(self, query: str) -> Row:
         """The one row of a query for the log's state."""
