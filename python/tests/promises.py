@@ -473,11 +473,15 @@ class Rooms(Links):
         """The log stays with the one before."""
         self.make_small()
         member = self.member(":- chr_constraint x/1, y/2.\n")
-        member.tell_many([[("x", key)] for key in range(60)])
+        member.tell_many([[("x", key)] for key in range(110)])
         with self.assertRaises(Full):
             member.upgrade(self.GROWS)
-        self.assertEqual(member.count("x"), 60)
-        self.assertEqual(self.member().tell(("x", 60)).number, 1)
+        # no two of them meet, so that the store is as large, but others may come
+        pairs = ":- chr_constraint x/1, y/2.\n:- chr_weight x/1 = 9.\nx(K), x(K) <=> "
+        with self.assertRaises(Full):
+            member.upgrade(pairs + ", ".join(f"y(K,{at})" for at in range(8)) + ".\n")
+        self.assertEqual(member.count("x"), 110)
+        self.assertEqual(self.member().tell(("x", 110)).number, 1)
 
     def test_names_that_nothing_uses_are_removed(self) -> None:
         """With the snapshot that finds none of them in the store, but for those that were told after it began."""

@@ -2,11 +2,21 @@
 
 import random
 import unittest
+from collections import Counter
+from collections.abc import Iterable, Iterator
+from pathlib import Path
 
+import random_programs
+import slow_reader
 from chrrep import Node, atoms_of
-from chrrep.link.room import Counting
-from chrrep.texts import atoms_text, store_text
+from chrrep.link.room import Counting, Symbol, _pairs_of, _rules_of
+from chrrep.texts import atoms_text, program_bytes, store_text
 from programs import COINS, PATHS
+from slow_verdict import Pattern, Program
+
+HERE = Path(__file__).resolve().parent
+MAKERS = (random_programs.program, random_programs.record_program, random_programs.long_program)
+LAYOUTS = ("", "", " ", "\n", "\t", "% a(X) <=> b(X), b(X). c | d @\n")
 
 GROWS = """
     % a rule in a comment: a(X) <=> b(X), b(X), b(X).
@@ -69,3 +79,68 @@ class Countings(unittest.TestCase):
                     rest = node.show_text()
                 self.assertLessEqual(counting.of_store(rest), counting.of_store(store_text(told)))
                 self.assertLessEqual(len(atoms_of(rest)), counting.of_store(rest))
+
+
+class Readings(unittest.TestCase):
+    """What is read of texts that are accepted, beside the slow reader."""
+
+    def test_texts_of_the_repository(self) -> None:
+        read = 0
+        for path in (*HERE.parents[1].glob("examples/**/*.chr"), *HERE.glob("explanations/*.chr")):
+            text = program_bytes(path)
+            try:
+                self.is_read(text, slow_reader.read(text))
+                read += 1
+            except slow_reader.Fault:
+                pass
+        self.assertGreater(read, 90)
+
+    def test_random_programs(self) -> None:
+        chance = random.Random(11)
+        for at in range(600):
+            made = chance.choice(MAKERS)(chance)
+            with self.subTest(at=at):
+                text = self.laid_out(str(made), chance).encode()
+                self.is_read(text, slow_reader.read(text))
+
+    def laid_out(self, text: str, chance: random.Random) -> str:
+        """The text with other layout, and with comments."""
+        clauses = [slow_reader.tokens(clause) for clause in text.split(".")]
+        return ".".join("".join(self.spaced(tokens, chance)) for tokens in clauses)
+
+    def spaced(self, tokens: Iterable[slow_reader.Token], chance: random.Random) -> Iterator[str]:
+        before = "sign"
+        for kind, token in tokens:
+            # words that follow each other are parted
+            yield " " if "sign" not in (kind, before) else ""
+            yield chance.choice(LAYOUTS) + token
+            before = kind
+
+    def is_read(self, text: bytes, wanted: Program) -> None:
+        rules = _rules_of(text.decode(errors="replace"))
+        self.assertEqual([tuple(rule) for rule in rules], [
+            (symbols_of(rule.removed), symbols_of(rule.body)) for rule in wanted.rules
+        ])  # fmt: skip
+        pairs = _pairs_of(text.decode(errors="replace"))
+        weights = {symbol: first * slow_reader.RADIX + second for symbol, (first, second) in pairs.items()}
+        self.assertEqual({**dict.fromkeys(wanted.symbols, slow_reader.RADIX), **weights}, wanted.symbols)
+        self.counts_rightly(text, wanted)
+
+    def counts_rightly(self, text: bytes, wanted: Program) -> None:
+        """Whether no rule makes atoms count for more, where each lowers the weight."""
+        if not all(wanted.weight(rule.body) < wanted.weight(rule.removed) for rule in wanted.rules):
+            return
+        counting = Counting(text)
+
+        def share(atoms: Iterable[Pattern]) -> int:
+            numbers = (Pattern(atom.name, tuple(0 for _ in atom.terms)) for atom in atoms)
+            return counting.of_store(", ".join(map(str, numbers)) or "true")
+
+        for rule in wanted.rules:
+            self.assertLessEqual(share(rule.body), share(rule.removed))
+        for name, arity in wanted.symbols:
+            self.assertGreaterEqual(share([Pattern(name, (0,) * arity)]), 1)
+
+
+def symbols_of(atoms: Iterable[Pattern]) -> "Counter[Symbol]":
+    return Counter((atom.name, len(atom.terms)) for atom in atoms)

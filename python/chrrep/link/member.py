@@ -404,8 +404,9 @@ class Member:
         new.begin(self._replica.position, self._replica.show())
         store = new.show()
         rest = self._rest(new, store, count)
-        if store.count(", ") >= self.link.room_limit:
-            raise Full(f"the store would have more than {self.link.room_limit} atoms under the new program")
+        if rest.room > self.link.room_limit:
+            most = self.link.room_limit
+            raise Full(f"under the new program the store can come to {rest.room} atoms: the log holds {most}")
         state = State(self._epoch + 1, new.program, self.link.mark().generation + 1, self._held(), store)
         return self.link.keep(state, True, rest)
 

@@ -21,10 +21,10 @@ ROOM = TOLD_LIMIT - ROOM_FOR_OTHERS
 Symbol: TypeAlias = tuple[str, int]
 """A name, and a number of arguments."""
 
-_COMMENT = re.compile(r"%[^\n]*")
-_RULE_NAME = re.compile(r"^\s*[A-Za-z_]\w*\s*@")
-_ATOM = re.compile(r"\b([a-z]\w*)\s*(?:\(([^()]*)\))?", re.ASCII)
-_WEIGHT = re.compile(r":-\s*chr_weight\s+([a-z]\w*)\s*/\s*(\d+)\s*=\s*(\d+)\s*(?:,\s*(\d+))?", re.ASCII)
+# an accepted text has neither strings nor signs of two meanings, so without layout a clause has one form
+_LAYOUT = re.compile(r"%[^\n]*|\s")
+_ATOM = re.compile(r"([a-z]\w*)(?:\(([^()]*)\))?", re.ASCII)
+_WEIGHT = re.compile(r":-chr_weight([a-z]\w*)/(\d+)=(-?\d+)(?:,(-?\d+))?", re.ASCII)
 _WRITTEN = re.compile(r'\["([a-z]\w*)"([^\[\]]*)\]', re.ASCII)
 _DEFAULT_WEIGHT = (1, 0)
 
@@ -67,17 +67,26 @@ class Counting:
 
 
 def _symbols_in(text: str) -> Iterable[Symbol]:
+    """The symbols of atoms that stand side by side."""
     for name, arguments in _ATOM.findall(text):
         yield name, arguments.count(",") + 1 if arguments else 0
 
 
+def _rules_of(program: str) -> list[_Rule]:
+    """The rules of an accepted text."""
+    return [_rule_of(clause) for clause in _clauses_of(program) if "<=>" in clause]
+
+
+def _clauses_of(program: str) -> list[str]:
+    return _LAYOUT.sub("", program).split(".")
+
+
 def _shares_of(program: str) -> dict[Symbol, int]:
     """How many atoms one of a symbol counts for, where that is more than 1."""
-    clauses = _COMMENT.sub("", program).split(".")
-    rules = [_rule_of(clause) for clause in clauses if "<=>" in clause]
+    rules = _rules_of(program)
     if all(rule.growth <= 0 for rule in rules):
         return {}
-    weights = _weights_of(clauses, rules)
+    weights = _weights_of(_pairs_of(program), rules)
     most = max(rule.growth for rule in rules)
     symbols = {symbol for rule in rules for symbol in (*rule.taken, *rule.left)}
     shares = {symbol: 1 + most * weights.get(symbol, _DEFAULT_WEIGHT[0]) for symbol in symbols}
@@ -87,19 +96,23 @@ def _shares_of(program: str) -> dict[Symbol, int]:
 
 
 def _rule_of(clause: str) -> _Rule:
-    heads, _, body = _RULE_NAME.sub("", clause).partition("<=>")
-    taken = heads.rpartition("\\")[2]
+    """The rule of a clause `NAME@KEPT\\TAKEN<=>GUARD|LEFT`, which may lack the name, what is kept, and the guard."""
+    heads, _, body = clause.partition("<=>")
+    taken = heads.rpartition("@")[2].rpartition("\\")[2]
     left = Counter(_symbols_in(body.rpartition("|")[2]))
     del left["true", 0]
     return _Rule(Counter(_symbols_in(taken)), left)
 
 
-def _weights_of(clauses: Iterable[str], rules: list[_Rule]) -> dict[Symbol, int]:
+def _pairs_of(program: str) -> dict[Symbol, tuple[int, int]]:
+    """The weights that an accepted text declares; one number is the first of two."""
+    found = [match.groups() for match in map(_WEIGHT.match, _clauses_of(program)) if match]
+    return {(name, int(arity)): (int(first), int(second or 0)) for name, arity, first, second in found}
+
+
+def _weights_of(declared: Mapping[Symbol, tuple[int, int]], rules: list[_Rule]) -> dict[Symbol, int]:
     """Weights of one number that each rule lowers: of two the first counts for more than the second can grow."""
-    pairs = {symbol: _DEFAULT_WEIGHT for rule in rules for symbol in (*rule.taken, *rule.left)}
-    for clause in clauses:
-        if found := _WEIGHT.search(clause):
-            pairs[found[1], int(found[2])] = int(found[3]), int(found[4] or 0)
+    pairs = {symbol: _DEFAULT_WEIGHT for rule in rules for symbol in (*rule.taken, *rule.left)} | dict(declared)
     more = max(_sum(rule.left, pairs, 1) - _sum(rule.taken, pairs, 1) for rule in rules)
     return {symbol: first * (max(more, 0) + 1) + second for symbol, (first, second) in pairs.items()}
 
