@@ -22,7 +22,7 @@ from typing import ParamSpec, Self, TypeVar
 from .link.following import LOOK_SECONDS, Watch
 from .link.log import LOG_NAME, PATIENCE, Link, connect
 from .link.member import SNAPSHOT_AFTER, Member
-from .node import ANSWER_SECONDS, Node
+from .node import UNASKED, Node, Timeout
 from .refusals import WrongProcess
 from .texts import Atom, Change, Id, Operation, ProgramText, Summary, Verdict
 
@@ -76,7 +76,7 @@ class AsyncNode:
         *,
         chrrep: str | os.PathLike[str] | None = None,
         wide: bool = False,
-        timeout: float | None = ANSWER_SECONDS,
+        timeout: Timeout = UNASKED,
     ) -> None:
         self._make = partial(Node, program, origin, chrrep=chrrep, wide=wide, timeout=timeout)
         self._made: Node | None = None
@@ -261,7 +261,7 @@ async def join(
     log: str = LOG_NAME,
     patience: float = PATIENCE,
     wide: bool | None = None,
-    timeout: float | None = ANSWER_SECONDS,
+    timeout: Timeout = UNASKED,
     snapshot_after: int = SNAPSHOT_AFTER,
 ) -> AsyncIterator[AsyncMember]:
     """A member of the log in the engine that the address names, as `chrrep.link.join`; all is closed after."""

@@ -9,9 +9,10 @@ import threading
 import weakref
 from collections.abc import Iterable, Iterator, Sequence
 from contextlib import contextmanager, suppress
+from enum import Enum
 from pathlib import Path
 from types import TracebackType
-from typing import NoReturn, Self
+from typing import NoReturn, Self, TypeAlias
 
 from .process import Late, Process, end_of
 from .refusals import (
@@ -56,12 +57,21 @@ _AHEAD = 8
 _LOG = logging.getLogger("chrrep.node")
 
 
-class Unasked(float):
-    """Seconds that hold for answers where nobody has asked for others, and for no verdict, which may take minutes."""
+ANSWER_SECONDS = 60.0
+"""How long a node may take to answer where nobody asks for a limit. A store of a million atoms comes to rest in a
+second or two."""
 
 
-ANSWER_SECONDS = Unasked(60)
-"""How long a node may take to answer. A store of a million atoms comes to rest in a second or two."""
+class Unasked(Enum):
+    """Stands for a limit of time that nobody has asked for: `ANSWER_SECONDS` for answers, and none for the verdict,
+    which may take minutes."""
+
+    UNASKED = "unasked"
+
+
+UNASKED = Unasked.UNASKED
+Timeout: TypeAlias = float | None | Unasked
+"""Seconds, or None for no limit."""
 
 
 def program_path(chrrep: str | os.PathLike[str] | None = None) -> str:
@@ -164,10 +174,10 @@ class Node:
         *,
         chrrep: str | os.PathLike[str] | None = None,
         wide: bool = False,
-        timeout: float | None = ANSWER_SECONDS,
+        timeout: Timeout = UNASKED,
     ) -> None:
         self.origin = origin
-        self._timeout = None if isinstance(timeout, Unasked) else timeout
+        limit, self._timeout = (ANSWER_SECONDS, None) if isinstance(timeout, Unasked) else (timeout, timeout)
         self._next = 1
         self._lock = threading.RLock()
         self._ended: NodeDied | None = None
@@ -187,7 +197,7 @@ class Node:
         except BaseException as fault:
             self._end(NodeDied("the node never came up"), by_force=not isinstance(fault, Refused))
             raise
-        self._timeout = timeout
+        self._timeout = limit
 
     @property
     def pid(self) -> int:

@@ -21,7 +21,7 @@ from unittest.mock import patch
 import chrrep
 from chrrep import ANSWER_SECONDS, Id, Node, NodeDied, Operation, check, explain, pieces, store_text
 from chrrep.asynchronous import AsyncNode, join
-from chrrep.node import Unasked
+from chrrep.node import UNASKED
 from chrrep.texts import LINE_LIMIT, OperationText
 from forks import Fork, said_in_fork
 from programs import COINS, PATHS, PLAIN, store_of
@@ -610,10 +610,10 @@ class Stand(StandIns):
         self.assertEqual(ANSWER_SECONDS, 60.0)
         calls: list[Callable[..., object]] = [Node, AsyncNode, join]
         for call in calls:
-            self.assertIs(inspect.signature(call).parameters["timeout"].default, ANSWER_SECONDS)
+            self.assertIs(inspect.signature(call).parameters["timeout"].default, UNASKED)
         # a verdict has none, and may take minutes
         late = self.program("sleep 1; echo accepted: rules 0, cases 0\nexec sleep 60")
-        with Node(PLAIN, 1, chrrep=late, timeout=Unasked(0.3)) as node:
+        with patch("chrrep.node.ANSWER_SECONDS", 0.3), Node(PLAIN, 1, chrrep=late) as node:
             with self.assertRaisesRegex(NodeDied, "no answer within 0.3 seconds"):
                 node.show()
 

@@ -12,7 +12,7 @@ from types import TracebackType
 from typing import NamedTuple, Self, TypeVar
 
 from ..names import NameClash, Names, named_text, number_of, numbered
-from ..node import ANSWER_SECONDS
+from ..node import UNASKED, Timeout
 from ..refusals import Full, NodeDied, Refused, RefusedProgram, WrongProcess
 from ..stores import StoreReader
 from ..texts import (
@@ -113,7 +113,7 @@ class Member:
         *,
         wide: bool | None = None,
         chrrep: str | os.PathLike[str] | None = None,
-        timeout: float | None = ANSWER_SECONDS,
+        timeout: Timeout = UNASKED,
         snapshot_after: int = SNAPSHOT_AFTER,
     ) -> None:
         self.link = link
@@ -679,7 +679,7 @@ def join(
     log: str = LOG_NAME,
     patience: float = PATIENCE,
     wide: bool | None = None,
-    timeout: float | None = ANSWER_SECONDS,
+    timeout: Timeout = UNASKED,
     snapshot_after: int = SNAPSHOT_AFTER,
 ) -> Iterator[Member]:
     """A member of the log in the engine that the address names, as `connect` and `Member` say; all is closed after."""

@@ -6,7 +6,7 @@ import os
 from collections.abc import Iterable, Iterator, Sequence
 from typing import NamedTuple
 
-from ..node import ANSWER_SECONDS, Node
+from ..node import UNASKED, Node, Timeout
 from ..refusals import Full, Refused
 from ..texts import (
     LINE_LIMIT,
@@ -48,7 +48,7 @@ class Running(NamedTuple):
     """Which program is run as nodes, and how long these may take to answer."""
 
     chrrep: str | os.PathLike[str] | None = None
-    timeout: float | None = ANSWER_SECONDS
+    timeout: Timeout = UNASKED
 
 
 class Replica:
