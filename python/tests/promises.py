@@ -2,6 +2,7 @@
 
 import gc
 import os
+import random
 import signal
 import threading
 import time
@@ -240,6 +241,72 @@ class Outcomes(Links):
             self.holds(fault.told)
         self.assertEqual(len(member.tell_many(marks(0, 5000), after=fault)), 5000)
         self.holds([], 5000)
+
+
+class Interrupts(Links):
+    """Ctrl-C that the program takes, at whatever moment of a call."""
+
+    ROUNDS = 400
+    is_armed = False
+
+    def setUp(self) -> None:  # noqa: N802
+        super().setUp()
+        before = signal.signal(signal.SIGALRM, self.interrupt)
+        self.addCleanup(signal.signal, signal.SIGALRM, before)
+
+    def interrupt(self, *_: object) -> None:
+        """Interrupts the call that is made, and nothing that comes after it."""
+        if self.is_armed:
+            self.is_armed = False
+            raise KeyboardInterrupt
+
+    def test_an_interrupt_at_any_moment(self) -> None:
+        """The tells after it go on at once, and what is told on is in the log once."""
+        link = self.link(patience=20.0)
+        member = self.stack.enter_context(Member(link, MARKED, snapshot_after=10**6))
+        chance, longest, count = random.Random(5), self.seconds_of(member), 0
+        for turn in range(1, self.ROUNDS + 1):
+            operations = marks(10 * turn, 1 + turn % 3)
+            fault = self.interrupted(member, operations, 1.2 * longest * chance.random())
+            count += fault is not None
+            begin = time.monotonic()
+            while fault:
+                try:
+                    # what came before the tell had begun leaves nothing to go on after
+                    member.tell_many(operations, after=fault if hasattr(fault, "tell") else None)
+                    fault = None
+                except NodeDied as died:
+                    fault = died
+                    member = self.stack.enter_context(Member(link, snapshot_after=10**6))
+            self.assertLess(time.monotonic() - begin, 15.0)
+        self.assertGreater(count, self.ROUNDS // 4)
+        wanted = Counter(mark for turn in range(1, self.ROUNDS + 1) for (mark,) in marks(10 * turn, 1 + turn % 3))
+        for each in (member, self.member()):
+            self.assertEqual(Counter(each.show("mark")), wanted)
+
+    def seconds_of(self, member: Member) -> float:
+        """How long a tell takes that nothing delays."""
+        times = []
+        for _ in range(20):
+            begin = time.monotonic()
+            member.tell(("path", 1, 2, 3))
+            times.append(time.monotonic() - begin)
+        return min(times)
+
+    def interrupted(self, member: Member, operations: Marks, seconds: float) -> BaseException | None:
+        """What a tell raises that is interrupted after so long, unless it is done before."""
+        try:
+            self.is_armed = True
+            signal.setitimer(signal.ITIMER_REAL, max(seconds, 1e-6))
+            member.tell_many(operations)
+            # no interrupt comes between these two lines, since the call is one of Python's
+            self.is_armed = False
+        except (KeyboardInterrupt, NodeDied) as fault:
+            return fault
+        finally:
+            self.is_armed = False
+            signal.setitimer(signal.ITIMER_REAL, 0.0)
+        return None
 
 
 class Moves(Links):
@@ -637,7 +704,7 @@ class Damages(Links):
     """Atoms of the operation that the snapshot stands for, and that is kept as its origin's last."""
 
 
-class Promises(Outcomes, Moves, Forks, Losses, Rooms, Clocks, Damages):
+class Promises(Outcomes, Interrupts, Moves, Forks, Losses, Rooms, Clocks, Damages):
     """All of them that hold over any engine."""
 
 
@@ -670,7 +737,11 @@ class Hangs(Links):
         self.assertEqual(member.tell(("mark", 4)), Id(member.origin, 5))
         self.assertEqual(self.member().show(), tuple(("mark", mark) for mark in range(5)))
         with self.engine.hanging():
+            # the thread that holds the origin waits for an answer by now, and isn't waited for
+            time.sleep(4.0)
+            begin = time.monotonic()
             self.assertIsNone(self.raised_in_time(calls[-1]))
+            self.assertLess(time.monotonic() - begin, 15.0)
 
     def raised_in_time(self, call: Callable[[], object]) -> BaseException | None:
         """What a call raises within a time that is far longer than it is patient."""

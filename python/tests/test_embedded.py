@@ -48,6 +48,7 @@ class SqliteLinks(links.Everything, links.Leases):
 
 class SqlitePromises(promises.Promises):
     kind = Embedded
+    ROUNDS = 1500
 
     def odd_origins(self) -> list[int]:
         # new files take no entry of others

@@ -67,7 +67,7 @@ class Following:
         self.fault: BaseException | None = None
         self._watch = Watch(member)
         self._call = call
-        self._over = threading.Event()
+        self._is_over = False
         self._thread = threading.Thread(target=self._run, name="chrrep following", daemon=True)
         self._thread.start()
 
@@ -78,7 +78,7 @@ class Following:
 
     def stop(self) -> None:
         """Ends the thread, within a second, and raises what ended it before. To stop twice is no fault."""
-        self._over.set()
+        self._is_over = True
         if threading.current_thread() is not self._thread:
             self._thread.join()
         fault, self.fault = self.fault, None
@@ -104,7 +104,7 @@ class Following:
 
     def _run(self) -> None:
         try:
-            while not self._over.is_set():
+            while not self._is_over:
                 change = self._watch.look(LOOK_SECONDS)
                 if change:
                     self._call(change)

@@ -63,7 +63,7 @@ _HEARTBEAT = LEASE_SECONDS / 4
 _REPORT_SECONDS = 1.0
 _FIRST_PAUSE = 0.05
 _LONGEST_PAUSE = 1.0
-_PARTING_SECONDS = 1.0
+PARTING_SECONDS = 1.0
 """How long a link that is closed waits for the engine to take its origin back, at most."""
 _SLACK_SECONDS = 1.0
 _TRIES = 8
@@ -457,7 +457,7 @@ class Link(ABC):
         """Lets go of the engine. To close twice is no fault. In a process that was forked nothing is done."""
         self._closing.set()
         if not self._is_closed and os.getpid() == self._process:
-            self.patience = min(self.patience, _PARTING_SECONDS)
+            self.patience = min(self.patience, PARTING_SECONDS)
             self._let_go()
         self._is_closed = True
 

@@ -191,14 +191,14 @@ class Member:
         """
         operations: Operations = [tuple(atoms) for atoms in tells]
         self.link.check_process()
-        with self._lock:
-            tell = self._begun(operations, after)
-            try:
+        tell = self._begun(operations, after)
+        try:
+            with self._lock:
                 self._go_on(tell)
-            except BaseException as fault:
-                tell.leave_by(fault)
-                raise
-            return list(tell.told)
+                return list(tell.told)
+        except BaseException as fault:
+            tell.leave_by(fault)
+            raise
 
     def follow(self, wait: float = 0.0) -> int:
         """Reads on in the log, and says how many operations were new. Where there are none it waits for one, up to so

@@ -28,6 +28,7 @@ from .log import (
     FORMAT,
     READ_AT_ONCE,
     SEAL_SECONDS,
+    Busy,
     Count,
     Entry,
     Heard,
@@ -44,6 +45,7 @@ from .log import (
     State,
     entries_of,
     has_more,
+    in_turn,
     is_among,
     known_format,
     new_log_id,
@@ -58,10 +60,15 @@ from .log import (
 from .telling import Batch
 
 _LOST = (psycopg2.OperationalError, psycopg2.InterfaceError, OSError)
+_AWAY = (*_LOST, Busy)
 _UNDONE = (errors.LockNotAvailable, errors.QueryCanceled)
 """What a statement ends by that was not carried out, on a connection that goes on."""
 _CONNECTING: dict[str, Any] = {"connect_timeout": 5, "keepalives_idle": 5, "tcp_user_timeout": 10_000}
 _CONNECT_SECONDS = 5.0
+_LEAST_SECONDS = 1.0
+"""How long a call has for itself, however long it waited for its turn."""
+_LOOK_SECONDS = 0.5
+"""How long it is waited for an answer before it is looked whether the link is closed."""
 _TURNS = 2
 """Statements that wait for a lock in vain before a link's patience is at its end, at least."""
 _HALF = 2**31
@@ -207,21 +214,21 @@ class _Connection:
     def __init__(self, url: str, prepare: Callable[[], None]) -> None:
         self._url = url
         self._prepare = prepare
-        self._lock = threading.Lock()
+        self._lock = threading.RLock()
+        self._is_over = False
         self._made: extensions.connection | None = None
         self._end = 0.0
 
     def use(self, call: Callable[[], T], seconds: float) -> T:
         """The call's result, within so many seconds; OperationalError where the connection is lost."""
-        self._end = time.monotonic() + seconds
-        if not self._lock.acquire(timeout=seconds):
-            raise _Late("another call has no answer yet")
-        try:
-            # who had it before may have taken long
-            self._end = time.monotonic() + seconds
+        end = time.monotonic() + seconds
+
+        def used() -> T:
+            # who had it before may have left hardly any time
+            self._end = max(end, time.monotonic() + _LEAST_SECONDS)
             return self._used(call)
-        finally:
-            self._lock.release()
+
+        return in_turn(self._lock, seconds, used)
 
     def rows(self, query: sql.Composed, values: dict[str, object]) -> list[Row]:
         """The rows of a query, of which there may be none."""
@@ -240,11 +247,15 @@ class _Connection:
     def listen(self, seconds: float) -> None:
         """Waits for a notice, for so many seconds."""
         assert self._made
+        end = time.monotonic() + seconds
         self._made.poll()
-        if not self._made.notifies and _is_ready(self._made, select.POLLIN, seconds):
-            self._made.poll()
+        while not self._made.notifies and not self._is_over and time.monotonic() < end:
+            if _is_ready(self._made, select.POLLIN, min(_LOOK_SECONDS, end - time.monotonic())):
+                self._made.poll()
 
     def close(self) -> None:
+        """Lets go of it; a call that waits for an answer is given up."""
+        self._is_over = True
         with self._lock:
             self._let_go()
 
@@ -277,7 +288,13 @@ class _Connection:
         end = min(self._end, time.monotonic() + seconds)
         while (state := self._made.poll()) != extensions.POLL_OK:
             event = select.POLLIN if state == extensions.POLL_READ else select.POLLOUT
-            if not _is_ready(self._made, event, end - time.monotonic()):
+            self._wait_for(event, end)
+
+    def _wait_for(self, event: int, end: float) -> None:
+        """Waits until the socket is ready; `_Late` where that is not in time, or the connection is closed."""
+        assert self._made
+        while not _is_ready(self._made, event, min(_LOOK_SECONDS, end - time.monotonic())):
+            if self._is_over or time.monotonic() >= end:
                 raise _Late("there is no answer in time")
 
     def _let_go(self) -> None:
@@ -381,7 +398,7 @@ class PostgresLink(Link):
         while True:
             if wait > 0:
                 # notices that have come tell of what is read next
-                self._patiently(lambda left: self._bell.use(self._bell.hush, left), _LOST)
+                self._patiently(lambda left: self._bell.use(self._bell.hush, left), _AWAY)
             entries = list(entries_of(self._ask(_READ, **_arrays(after), limit=READ_AT_ONCE)))
             left = end - time.monotonic()
             if entries or left <= 0 or self._closing.is_set:
@@ -389,7 +406,7 @@ class PostgresLink(Link):
                 id, generation = self._state_row("generation")
                 self._check_id(id)
                 return Reading(entries, generation)
-            self._patiently(lambda most: self._bell.use(lambda: self._bell.listen(left), most), _LOST)
+            self._patiently(lambda most: self._bell.use(lambda: self._bell.listen(left), most), _AWAY)
 
     @of_damaged
     def newest(self) -> dict[int, int]:
@@ -566,7 +583,7 @@ class PostgresLink(Link):
 
     def _use(self, call: Callable[[], T]) -> T:
         try:
-            return self._patiently(lambda left: self._engine.use(call, left), _LOST)
+            return self._patiently(lambda left: self._engine.use(call, left), _AWAY)
         except errors.UniqueViolation:
             raise
         except psycopg2.Error as fault:

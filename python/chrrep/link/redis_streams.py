@@ -17,11 +17,13 @@ from redis.backoff import NoBackoff
 from redis.retry import Retry
 
 from ..names import NameClash
+from ..refusals import ChrrepError
 from ..texts import Id
 from .faults import LogUnusable, OriginShared, ProgramChanged
 from .log import (
     FIRST_EPOCH,
     FORMAT,
+    PARTING_SECONDS,
     READ_AT_ONCE,
     SEAL_SECONDS,
     Count,
@@ -245,14 +247,8 @@ class RedisLink(Link):
         self._known_until = "0-0"
         self._fence = 0
         self._answer_seconds = min(_ANSWER_SECONDS, max(_LEAST_SECONDS, patience / _TURNS))
-        self._engine = redis.Redis.from_url(
-            url,
-            decode_responses=True,
-            encoding_errors="replace",
-            socket_timeout=self._answer_seconds,
-            socket_connect_timeout=self._answer_seconds,
-            retry=Retry(NoBackoff(), 0),
-        )
+        self._url = url
+        self._engine = self._client(self._answer_seconds)
         self._scripts = {script: self._engine.register_script(script) for script in _SCRIPTS}
         try:
             self._open()
@@ -396,6 +392,17 @@ class RedisLink(Link):
     def _lease_milliseconds(self) -> int:
         return int(self.lease_seconds * 1000)
 
+    def _client(self, seconds: float) -> "redis.Redis[str]":
+        """A client that waits for so long for a connection, and for an answer."""
+        return redis.Redis.from_url(
+            self._url,
+            decode_responses=True,
+            encoding_errors="replace",
+            socket_timeout=seconds,
+            socket_connect_timeout=seconds,
+            retry=Retry(NoBackoff(), 0),
+        )
+
     def _open(self) -> None:
         """Makes the log's state, or what it lacks where it is of the format before."""
         keys = self._keys("state", "origins", "named", "places", "leases", "allotted")
@@ -430,8 +437,8 @@ class RedisLink(Link):
         ])  # fmt: skip
 
     def _let_go(self) -> None:
-        with suppress(Exception):
-            self._run(_LET_GO, self._keys("leases", "members"), [self.writer, self.origin])
+        with suppress(Exception), self._client(PARTING_SECONDS) as engine:
+            self._scripts[_LET_GO](self._keys("leases", "members"), [self.writer, self.origin], engine)
         self._engine.close()
         self._engine.connection_pool.disconnect()
 
@@ -454,6 +461,12 @@ class RedisLink(Link):
             return self._patiently(lambda left: call(), _LOST)
         except redis.exceptions.RedisError as fault:
             raise LogUnusable(f"the log {self.log!r} in Redis can't be used: {one_line(fault)}") from fault
+        except ChrrepError:
+            raise
+        except BaseException:
+            # interrupted between a question and its answer, which the next would be given
+            self._engine.connection_pool.disconnect()
+            raise
 
     def _said(self, call: Callable[[], Any]) -> Any:
         """What a script says that looks at the log's id."""
