@@ -5,9 +5,9 @@
     python3 python/tests engines            those of logs in Redis and PostgreSQL, which they start on this machine
     python3 python/tests test_node ..       those of these modules
 
-With several processes each test runs by itself, or each module whose tests share much, as many at once, and what it
-writes is told when it has ended. With --brief only what fails is told, and how many have ended where standard error is
-a terminal.
+With several processes each test runs by itself, or each module or class whose tests share much, as many at once, and
+what it writes is told when it has ended. Those over engines, which mostly wait, take six. With --brief only what fails
+is told, and how many have ended where standard error is a terminal.
 
 The environment's CHRREP_PROGRAMS is how many random programs of each kind are judged, 3,000 where it doesn't say (of
 those whose weights are searched for 2,000), CHRREP_KILLS how many nodes are killed at random moments over each engine,
@@ -28,7 +28,9 @@ from running import run, run_at_once  # noqa: E402
 
 HERE = Path(__file__).resolve().parent
 ENGINES = ["test_links"]
-"""Modules whose tests start servers of Redis and PostgreSQL."""
+"""Modules whose tests start servers of Redis and PostgreSQL, one for a class: one process runs all of it."""
+
+ENGINE_PROCESSES = 6
 
 LONGEST = [
     "test_install",
@@ -74,22 +76,31 @@ def by_length(name: str) -> int:
     return LONGEST.index(module) if module in LONGEST else len(LONGEST)
 
 
+def task_of(name: str) -> str:
+    """The module or the class that one process runs with a test, or the test alone."""
+    if module_of(name) in WHOLE:
+        return module_of(name)
+    return name.rpartition(".")[0] if module_of(name) in ENGINES else name
+
+
 def tasks_of(tests: unittest.TestSuite) -> dict[str, int]:
-    """The names of tests and of whole modules, the longest first, each with the number of its tests."""
-    names = (module_of(name) if module_of(name) in WHOLE else name for name in names_in(tests))
+    """The names of tests and of whole modules and classes, the longest first, each with the number of its tests."""
+    names = map(task_of, names_in(tests))
     return dict(sorted(Counter(names).items(), key=lambda it: by_length(it[0])))
 
 
 def main() -> int:
     words = argparse.ArgumentParser(description=__doc__, formatter_class=argparse.RawDescriptionHelpFormatter)
     words.add_argument("modules", nargs="*", metavar="MODULE")
-    words.add_argument("--processes", type=int, default=1)
+    words.add_argument("--processes", type=int)
     words.add_argument("--brief", action="store_true")
     said = words.parse_args()
     sys.path[:0] = [str(HERE.parent), str(HERE)]
-    tests = unittest.defaultTestLoader.loadTestsFromNames(modules_of(said.modules))
-    if said.processes > 1 or said.brief:
-        tally = run_at_once(tasks_of(tests), said.processes, said.brief, sys.stdout, sys.stderr)
+    modules = modules_of(said.modules)
+    tests = unittest.defaultTestLoader.loadTestsFromNames(modules)
+    processes: int = said.processes or (ENGINE_PROCESSES if modules == ENGINES else 1)
+    if processes > 1 or said.brief:
+        tally = run_at_once(tasks_of(tests), processes, said.brief, sys.stdout, sys.stderr)
     else:
         tally = run(tests, sys.stdout)
     for it in tally.skipped:

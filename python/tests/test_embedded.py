@@ -136,6 +136,23 @@ class Files(unittest.TestCase):
             release.join()
             self.assertEqual(member.show(), (("a", 1), ("a", 3)))
 
+    def test_a_new_file_takes_nothing_of_another_kind(self) -> None:
+        with join(self.url, PLAIN) as member:
+            member.tell(("a", 1))
+            columns = "log, origin, number, atoms, writer"
+            rows: list[tuple[object, ...]] = [
+                (7, 1, b"[]", "x"), (7, 1, None, "x"), (7, "y", "[]", "x"), ("x", 1, "[]", "x"), (7, 0, "[]", "x"),
+                (2**32 - 1, 1, "[]", "x"), (-1, 1, "[]", "x"), (7, 1.5, "[]", "x"), (7, 1, "[]", None),
+            ]  # fmt: skip
+            with closing(sqlite3.connect(self.path)) as engine:
+                for row in rows:
+                    with self.subTest(row=row), self.assertRaises(sqlite3.IntegrityError), engine:
+                        engine.execute(f"INSERT INTO entries ({columns}) VALUES ('chrrep', ?, ?, ?, ?)", row)
+                for field in ("epoch", "generation", "room", "format"):
+                    with self.subTest(field=field), self.assertRaises(sqlite3.IntegrityError), engine:
+                        engine.execute(f"UPDATE logs SET {field} = 'x'")
+            self.assertEqual(member.show(), (("a", 1),))
+
     def test_what_else_an_older_file_takes(self) -> None:
         """Entries that are no text or no text of Unicode are set aside, and what has no number is damage."""
         engine = Embedded()
