@@ -75,7 +75,7 @@ class AsyncNode:
         origin: int,
         *,
         chrrep: str | os.PathLike[str] | None = None,
-        wide: bool = False,
+        wide: bool | None = None,
         timeout: float | None = ANSWER_SECONDS,
     ) -> None:
         self._make = partial(Node, program, origin, chrrep=chrrep, wide=wide, timeout=timeout)
@@ -235,7 +235,7 @@ class AsyncMember:
         """As `Member.snapshot`."""
         return await self._caller.call(self.member.snapshot)
 
-    async def upgrade(self, program: ProgramText, *, wide: bool = False) -> None:
+    async def upgrade(self, program: ProgramText, *, wide: bool | None = None) -> None:
         """As `Member.upgrade`."""
         await self._caller.call(self.member.upgrade, program, wide=wide)
 

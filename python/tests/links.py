@@ -17,7 +17,7 @@ from typing import Any
 from unittest.mock import patch
 
 import chrrep
-from chrrep import Change, Id, Operation
+from chrrep import Change, Id, Operation, Verdict
 from chrrep.link import (
     Batch,
     Count,
@@ -47,7 +47,7 @@ from chrrep.link.log import FORMAT, SEAL_SECONDS
 from chrrep.names import NameClash, named_atoms_of
 from engines import Engine, Server
 from kills import KILLS, SECONDS, Command, Kills, chance_of_stop
-from programs import COINS, COUNTED, MARKED, PATHS, PLAIN, store_of
+from programs import COINS, COUNTED, MARKED, PATHS, PLAIN, REGISTER, store_of
 
 STOPPED = "FATAL:  terminating connection due to administrator command\n"
 """What libpq itself writes on standard error where it hears between two requests that PostgreSQL is stopped."""
@@ -662,8 +662,30 @@ class Programs(Links):
     def test_the_log_knows_how_its_program_is_judged(self) -> None:
         first = self.stack.enter_context(Member(self.link(), PATHS, wide=True))
         self.assertEqual((self.member().verdict, self.member(PATHS).verdict), (first.verdict, first.verdict))
-        with self.assertRaisesRegex(OtherProgram, "--wide"):
+        with self.assertRaisesRegex(OtherProgram, "judged in two ways: leave --wide out"):
             Member(self.link(), PATHS, wide=False)
+
+    def test_a_log_is_judged_by_the_cases_that_decide(self) -> None:
+        """Its members judge as the first one did."""
+        first = self.member(REGISTER)
+        self.assertEqual((first.verdict, first.program), (Verdict(3, 1230, True), Program(REGISTER.encode(), True)))
+        first.tell(("reg", "title", 4, 900, 1), ("reg", "title", 5, 900, 2))
+        for member in (self.member(), self.member(REGISTER), Member(self.link(), REGISTER, wide=True)):
+            self.stack.callback(member.close)
+            self.assertEqual((member.verdict, member.show()), (first.verdict, (("reg", "title", 5, 900, 2),)))
+        with self.assertRaises(OtherProgram):
+            Member(self.link(), REGISTER, wide=False)
+        first.upgrade(f"{REGISTER}% more\n")
+        self.assertEqual((first.program.is_wide, first.show()), (True, (("reg", "title", 5, 900, 2),)))
+        with self.assertRaises(chrrep.TooManyTypes):
+            first.upgrade(f"{REGISTER}% the last\n", wide=False)
+        first.upgrade(REGISTER + PATHS)
+        self.assertEqual((first.link.state().program, first.program.is_wide), (first.program, True))
+        self.program.write_text(REGISTER + PATHS)
+        command = self.command()
+        self.assertRegex(command.ask("reg(title,6,901,3)") or "", r"^told \d+:1$")
+        self.assertEqual(command.ask("?"), "reg(title,6,901,3)")
+        self.assertEqual(command.end(), (0, ""))
 
     def test_a_log_of_a_later_format(self) -> None:
         self.member(PLAIN).tell(("a", 1))

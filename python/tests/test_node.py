@@ -14,6 +14,7 @@ import threading
 import time
 import unittest
 from collections.abc import Callable
+from contextlib import suppress
 from pathlib import Path
 from typing import Any
 from unittest.mock import patch
@@ -21,10 +22,11 @@ from unittest.mock import patch
 import chrrep
 from chrrep import ANSWER_SECONDS, Id, Node, NodeDied, Operation, check, explain, pieces, store_text
 from chrrep.asynchronous import AsyncNode, join
-from chrrep.node import Unasked
+from chrrep.node import Unasked, program_path
+from chrrep.process import Process
 from chrrep.texts import LINE_LIMIT, OperationText
 from forks import Fork, said_in_fork
-from programs import COINS, PATHS, PLAIN, store_of
+from programs import COINS, PATHS, PLAIN, REGISTER, THRONGS, store_of
 
 SECONDS = 20.0
 """Far longer than any call here takes."""
@@ -330,11 +332,7 @@ PROGRAMS: list[tuple[type[chrrep.Refused], str | bytes, dict[str, Any]]] = [
             "right": (("tail",),),
         },
     ),
-    (
-        chrrep.TooManyTypes,
-        ":- chr_constraint a/4. a(A,B,C,D) \\ a(E,F,G,H), a(I,J,K,L) <=> true.",
-        {"rules": (1, 1)},
-    ),
+    (chrrep.TooManyTypes, THRONGS, {"rules": (1, 1)}),
     # a line that ends the text where it is sent is a fault within it
     (chrrep.Syntax, PLAIN + "---\n" + ":- chr_constraint b/1.\n", {"clause": 2}),
     (chrrep.Syntax, PLAIN + '---\r\n["tell",1,[1,1],[["a",1]]]\n.', {"clause": 2}),
@@ -381,16 +379,63 @@ class Programs(unittest.TestCase):
 
     def test_programs_judged_by_sorted_cases(self) -> None:
         rule = ":- chr_constraint p/4.\np(K,A,B,C) \\ p(K,D,E,F) <=> A < D | true.\n"
-        self.assertEqual(check(PATHS, wide=True), chrrep.Verdict(1, 17))
-        self.assertEqual(check(rule, wide=True), chrrep.Verdict(1, 6))
-        for call in (check, lambda text: Node(text, 1)):
-            self.refusal(chrrep.TooManyTypes, call, rule)
-        with Node(rule, 1, wide=True) as wide, Node(rule, 2, wide=True) as other:
+        self.assertEqual(check(PATHS, wide=True), chrrep.Verdict(1, 17, True))
+        self.assertEqual(check(rule, wide=True), chrrep.Verdict(1, 6, True))
+        with Node(rule, 1, wide=True) as wide, Node(rule, 2) as other:
             wide.tell(("p", 1, 7, 0, 0))
             other.tell(("p", 1, 5, 3, 2), ("p", 2, 9, 0, 0))
             wide.merge(other.lacks(wide.summary()))
-            self.assertEqual(wide.verdict, chrrep.Verdict(1, 6))
+            self.assertEqual(wide.verdict, chrrep.Verdict(1, 6, True))
             self.assertEqual(wide.show(), (("p", 1, 5, 3, 2), ("p", 2, 9, 0, 0)))
+
+    def test_programs_are_judged_by_the_cases_that_decide(self) -> None:
+        """By sorted cases only where there are too many joint ones, or where they are asked for."""
+        calls: list[Callable[..., chrrep.Verdict]] = [check, lambda text, **more: self.verdict_of_node(text, **more)]
+        for judge in calls:
+            self.assertEqual(judge(PATHS), chrrep.Verdict(1, 541, False))
+            self.assertEqual(judge(PATHS, wide=True), chrrep.Verdict(1, 17, True))
+            self.assertEqual(judge(REGISTER), chrrep.Verdict(3, 1230, True))
+            with self.assertRaisesRegex(chrrep.TooManyTypes, "too many joint cases .* wide=True, or leave it out$"):
+                judge(REGISTER, wide=False)
+            for wide in (None, True):
+                with self.assertRaisesRegex(chrrep.TooManyTypes, "compare fewer columns, .*`chrrep explain`") as raised:
+                    judge(THRONGS, wide=wide)
+                self.assertNotIn("\n", str(raised.exception))
+                self.assertIn("best/6: by order 2, 3, 4, 5; by equality 6", raised.exception.explain())
+
+    def verdict_of_node(self, text: str, **more: Any) -> chrrep.Verdict:
+        with Node(text, 1, **more) as node:
+            node.show()
+            return node.verdict
+
+    def test_a_program_is_judged_once_more_at_most(self) -> None:
+        words: list[list[str]] = []
+
+        class Noted(Process):
+            def __init__(self, said: list[str]) -> None:
+                words.append(said[1:])
+                super().__init__(said)
+
+        joint, sorted_ = ["serve"], ["serve", "--wide"]
+        rows: list[tuple[str, bool | None, list[list[str]]]] = [
+            (PATHS, None, [joint]), (REGISTER, None, [joint, sorted_]), (THRONGS, None, [joint, sorted_]),
+            (REGISTER, True, [sorted_]), (REGISTER, False, [joint]), (COINS + "coin <=> true.", None, [joint]),
+        ]  # fmt: skip
+        for text, wide, said in rows:
+            words.clear()
+            with patch("chrrep.node.Process", Noted), suppress(chrrep.RefusedProgram), Node(text, 1, wide=wide) as node:
+                self.assertEqual(node.tell_many([]), [])
+            self.assertEqual(words, said)
+
+    def test_wide_is_told_of_in_the_same_words(self) -> None:
+        top = Path(__file__).resolve().parents[2]
+        told = [(top / "docs" / name).read_text() for name in ("GUIDE.md", "REFERENCE.md", "NODES.md")]
+        for words in ([program_path(), "check"], [sys.executable, "-B", "-m", "chrrep.link"]):
+            env = {**os.environ, "PYTHONPATH": str(top / "python")}
+            ended = subprocess.run([*words, "--help"], capture_output=True, text=True, env=env, check=False)
+            told.append(ended.stdout + ended.stderr)
+        for text in told:
+            self.assertIn("by the columns that rules compare: more programs are decided", " ".join(text.split()))
 
 
 class Ends(unittest.TestCase):

@@ -103,7 +103,11 @@ def _settings(words: list[str] | None) -> argparse.Namespace:
     add("--log", default=LOG_NAME, metavar="NAME", help=f"the log's name in the engine ({LOG_NAME})")
     away = f"how long the engine may be away ({PATIENCE:.0f})"
     add("--patience", default=PATIENCE, type=float, metavar="SECONDS", help=away)
-    add("--wide", action="store_true", help="judge the program by sorted cases, which decide more programs")
+    wide = (
+        "decide by the columns that rules compare: more programs are decided; left out, the program is judged so where "
+        "there are too many cases else"
+    )
+    add("--wide", action="store_true", help=wide)
     after = f"atoms that are told from one snapshot to the next ({SNAPSHOT_AFTER})"
     add("--snapshot-after", default=SNAPSHOT_AFTER, type=int, metavar="N", help=after)
     add("--upgrade", type=Path, metavar="NEW", help="have the log go over to this program text, and end")
@@ -123,12 +127,12 @@ def _settings(words: list[str] | None) -> argparse.Namespace:
 def _run(settings: argparse.Namespace, signals: Signals) -> None:
     engine = settings.engine or _beside(settings.program or settings.upgrade)
     options = {name: getattr(settings, name) for name in ("origin", "log", "patience", "snapshot_after")}
-    is_wide = None if settings.upgrade else settings.wide or None
-    with join(engine, settings.program, wide=is_wide, **options) as member:
+    is_wide = settings.wide or None
+    with join(engine, settings.program, wide=None if settings.upgrade else is_wide, **options) as member:
         if not settings.engine:
             print(f"chrrep.link: the log is {engine}, and this node's origin {member.origin}", file=sys.stderr)
         if settings.upgrade:
-            member.upgrade(settings.upgrade, wide=settings.wide)
+            member.upgrade(settings.upgrade, wide=is_wide)
             _say(f"upgraded: rules {member.verdict.rules}, cases {member.verdict.cases}")
         else:
             member.when_rejoined = partial(_say_program, member)

@@ -78,7 +78,7 @@ class PageUnusable(ChrrepError):
 def _first_difference(ours: bytes, theirs: bytes) -> str:
     """Where two texts differ first, in words."""
     if ours == theirs:
-        return "the texts are one, but one of them is judged with --wide"
+        return "the texts are one, but judged in two ways: leave --wide out, and the program is judged as the log says"
     here, there = (text.decode(errors="replace").split("\n") for text in (ours, theirs))
     place = next((at for at, pair in enumerate(zip(here, there)) if pair[0] != pair[1]), min(len(here), len(there)))
     said = (repr(lines[place][:80]) if place < len(lines) else "not there" for lines in (here, there))

@@ -73,10 +73,10 @@ T = TypeVar("T")
 
 
 class Program(NamedTuple):
-    """A program text, and whether it is judged by sorted cases alone."""
+    """A program text, and whether it is judged by sorted cases: None where that has yet to be found out."""
 
     text: bytes
-    is_wide: bool = False
+    is_wide: bool | None = False
 
 
 class Mark(NamedTuple):

@@ -86,8 +86,9 @@ class Admitted(NamedTuple):
 class Member:
     """A node, and its link to the log that it shares with other nodes of one program.
 
-    `program` is what a `Node` takes; left out, it is the log's. The first member gives the log its program, judged by
-    sorted cases with `wide`; one that brings another text is `OtherProgram`. `chrrep` names the program to run, and
+    `program` is what a `Node` takes; left out, it is the log's. The first member gives the log its program, judged as
+    `check` judges it, also with `wide`, and all members judge it so; one that brings another text, or asks by `wide`
+    for another way, is `OtherProgram`. `chrrep` names the program to run, and
     `timeout` is how long the node may take to answer, `ANSWER_SECONDS` left out, as for a `Node`; how long the engine
     may is the link's.
 
@@ -287,7 +288,7 @@ class Member:
                 return False
             return self._keep(count)
 
-    def upgrade(self, program: ProgramText, *, wide: bool = False) -> None:
+    def upgrade(self, program: ProgramText, *, wide: bool | None = None) -> None:
         """Has the log go over to another program, which is told the store at rest of all that is in the log by now.
 
         Others wait until that is done, and are told `ProgramChanged` then; this member goes on. Nothing has changed
@@ -704,7 +705,7 @@ def _joined(
             if text is None:
                 raise NoProgram
             # what is refused is no log's program
-            replica = Replica(Program(text, bool(wide)), running)
+            replica = Replica(Program(text, wide), running)
             link.begin(replica.program)
             state = link.state()
         assert state.program

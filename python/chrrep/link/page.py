@@ -229,7 +229,7 @@ class Watcher:
 
     def _program(self) -> object:
         verdict = self._member.verdict
-        said = f"accepted: rules {verdict.rules}, cases {verdict.cases}"
+        said = f"accepted{' with --wide' * verdict.is_wide}: rules {verdict.rules}, cases {verdict.cases}"
         return {"verdict": said, "log": f"log {self._member.link.log}, origin {self._member.origin}"}
 
     def _line(self, entry: Entry) -> tuple[str, str]:
