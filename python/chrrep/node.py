@@ -9,11 +9,12 @@ import threading
 import weakref
 from collections.abc import Callable, Iterable, Iterator, Sequence
 from contextlib import contextmanager, suppress
-from functools import partial
+from functools import cached_property, partial
 from pathlib import Path
 from types import TracebackType
 from typing import NoReturn, Self
 
+from .columns import Columns
 from .process import Late, Process, end_of
 from .refusals import (
     BadLine,
@@ -48,7 +49,7 @@ from .texts import (
     text_pieces,
     verdict_of,
 )
-from .words import shape_fault, symbol_fault, symbols_of
+from .words import Wanted, check_pattern, shape_fault, symbol_fault
 
 _REPLICA = 1
 _NO_REPLICA = 0
@@ -212,6 +213,11 @@ class Node:
         """The id of the node's process."""
         return self._process.pid
 
+    @cached_property
+    def columns(self) -> Columns:
+        """What the program's text tells of symbols and their columns."""
+        return Columns(self._text)
+
     @property
     def next_id(self) -> Id:
         """The id that the next told operation has: its number is beyond all of this origin that the node has held."""
@@ -253,9 +259,12 @@ class Node:
 
     def show(self, symbol: str | None = None, *pattern: int | None) -> tuple[Atom, ...]:
         """The store at rest, in the order in which it is printed. With a symbol only its atoms, and with a pattern of
-        arguments only those that have them, None being any: `show("path", 1, None, None)`."""
-        text = self.show_text()
-        return self._store.atoms_of(text) if symbol is None else found_in(text, symbol, *pattern)
+        arguments only those that have them, None being any: `show("path", 1, None, None)`. Raises what `tell` raises
+        of such an atom (`Shape`, `UnknownSymbol`)."""
+        if symbol is None:
+            return self._store.atoms_of(self.show_text())
+        check_pattern((symbol, *pattern), self.columns.symbols, Wanted(self.columns.argument))
+        return found_in(self.show_text(), symbol, *pattern)
 
     def count(self, symbol: str, *pattern: int | None) -> int:
         """How many atoms `show` gives."""
@@ -324,11 +333,12 @@ class Node:
         try:
             yield
         except (BadLine, Shape) as refusal:
-            refusal.add(next(filter(None, (shape_fault(one.atoms) for one in delta)), None))
+            wanted = Wanted(self.columns.argument)
+            refusal.say(next(filter(None, (shape_fault(one.atoms, wanted) for one in delta)), None))
             raise
         except UnknownSymbol as refusal:
-            symbols = symbols_of(self._text)
-            refusal.add(next(filter(None, (symbol_fault(one.atoms, symbols) for one in delta)), None))
+            symbols = self.columns.symbols
+            refusal.say(next(filter(None, (symbol_fault(one.atoms, symbols) for one in delta)), None))
             raise
 
     def _ask(self, *words: object, following: int = 0) -> str:

@@ -56,12 +56,13 @@ class Refused(ChrrepError):
     def __init__(self, answer: str, number: int | None = None) -> None:
         if number is not None:
             self.number = number
-        super().__init__(f"{type(self).__name__}: {answer}")
+        self._answered = f"{type(self).__name__}: {answer}"
+        super().__init__(self._answered)
 
-    def add(self, words: str | None) -> None:
-        """Adds to what the exception says."""
+    def say(self, words: str | None) -> None:
+        """Has the exception say what is wrong, in the place of what it said of that before."""
         if words:
-            self.args = (f"{self}: {words}",)
+            self.args = (f"{self._answered}: {words}",)
 
 
 class RefusedProgram(Refused):
@@ -88,7 +89,7 @@ class TextFault(RefusedProgram):
     def explained_by(self, explains: Callable[[], str]) -> None:
         super().explained_by(explains)
         # it is told at once where the text is no program
-        self.add(explains().partition("\n")[0])
+        self.say(explains().partition("\n")[0])
 
 
 class BadByte(TextFault):
@@ -165,7 +166,7 @@ class NotLowered(RefusedProgram):
     def __init__(self, answer: str, rule: int, before: Weight, after: Weight) -> None:
         self.rule, self.before, self.after = rule, before, after
         super().__init__(answer)
-        self.add(f"rule {rule} does not lower the weight")
+        self.say(f"rule {rule} does not lower the weight")
 
 
 class Overlap(RefusedProgram):
@@ -186,7 +187,7 @@ class Overlap(RefusedProgram):
         self.rules, self.matching = rules, matching
         self.store, self.left, self.right = store, left, right
         super().__init__(answer)
-        self.add("one store comes to two ends")
+        self.say("one store comes to two ends")
 
 
 class TooManyTypes(RefusedProgram):
@@ -199,7 +200,7 @@ class TooManyTypes(RefusedProgram):
     ) -> None:
         self.rules, self.matching, self.classes = rules, matching, classes
         super().__init__(answer)
-        self.add(_TOO_MANY_SORTED if is_wide else _TOO_MANY_JOINT)
+        self.say(_TOO_MANY_SORTED if is_wide else _TOO_MANY_JOINT)
 
 
 class BadLine(Refused):

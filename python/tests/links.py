@@ -4,6 +4,7 @@ import json
 import os
 import queue
 import random
+import re
 import signal
 import tempfile
 import threading
@@ -44,7 +45,7 @@ from chrrep.link import (
     connect,
 )
 from chrrep.link.log import FORMAT, SEAL_SECONDS
-from chrrep.names import NameClash, named_atoms_of
+from chrrep.names import NameClash, named_atoms_of, number_of
 from engines import Engine, Server
 from kills import KILLS, SECONDS, Command, Kills, chance_of_stop
 from programs import COINS, COUNTED, MARKED, PATHS, PLAIN, REGISTER, store_of
@@ -592,6 +593,36 @@ class Naming(Links):
             one.tell(("paths", "oslo", "rome", 1))
         self.assertEqual(len(one.link.names()), 3)
 
+    def test_refusals_have_names_and_not_their_numbers(self) -> None:
+        member = self.member(f"% chr_columns path(from, to, length)\n{PATHS}")
+        rows: list[tuple[type[chrrep.Refused], list[Any], str]] = [
+            (chrrep.Shape, ["path", "oslo", 2.5, "x"], "argument 2 (to) of ('path', 'oslo', 2.5, 'x') is a float, and "
+             "neither a whole number nor a name"),
+            (chrrep.Shape, ["path", "oslo", "rome", 2**63],
+             "argument 3 (length) of ('path', 'oslo', 'rome', 9223372036854775808) does not fit 64 bits"),
+            (chrrep.UnknownSymbol, ["path", "oslo", "rome"], "'path' is declared with 3 arguments, and not with 2"),
+        ]  # fmt: skip
+        for kind, atom, said in rows:
+            calls: list[Callable[[], object]] = [
+                partial(member.tell, ("path", "oslo", 1, 2), tuple(atom)),
+                partial(member.show, *atom), partial(member.count, *atom),
+            ]  # fmt: skip
+            for call in calls:
+                with self.assertRaises(kind) as raised:
+                    call()
+                self.assertRegex(str(raised.exception), f"^{kind.__name__}: (refused 3[12]: )?{re.escape(said)}$")
+        with self.assertRaisesRegex(chrrep.UnknownSymbol, "is 'path' meant"):
+            member.show("paths", "oslo", None, None)
+        self.assertEqual((member.show(), member.link.names()), ((), []))
+
+    def test_stores_that_diverge_are_told_with_names(self) -> None:
+        member = self.member(PLAIN)
+        member.tell(("a", "oslo"))
+        state = State(1, Program(PLAIN.encode()), 1, {member.origin: 1}, f"a({number_of('oslo')}), a(7)")
+        self.assertTrue(member.link.keep(state))
+        with self.assertRaisesRegex(Diverged, r": here a\(oslo\), in the log a\(oslo\), a\(7\)$"):
+            member.follow()
+
     def test_two_names_of_one_number(self) -> None:
         one, other = self.member(PLAIN), self.member()
         with patch("chrrep.names.number_of", len):
@@ -613,7 +644,18 @@ class Naming(Links):
         for line, answer in (
             ('path(berlin,"São Paulo",1050), path( rome , 2 ,3)', "told 1:1"),
             ('path(berlin, "S\\u00e3o Paulo", 1040)', "told 1:2"),
-            ("path(Berlin,1,2)", "refused: no atom at byte 0 of 'path(Berlin,1,2)'"),
+            (
+                "path(oslo, Berlin,2)",
+                'refused: character 12, argument 2 of path: Berlin is no name without quotes: put it in double quotes, '
+                '"Berlin"',
+            ),
+            ("? path(rome,_,_)", "path(rome,2,3)"),
+            ("? path", 'path(berlin,"São Paulo",1040), path(rome,2,3)'),
+            ('? path(_ , "São Paulo", _)', 'path(berlin,"São Paulo",1040)'),
+            ("?path(oslo,_,_)", "true"),
+            ("? path(oslo,_)", "refused: UnknownSymbol: 'path' is declared with 3 arguments, and not with 2"),
+            ("? paths", "refused: UnknownSymbol: no symbol 'paths' is declared: is 'path' meant?"),
+            ("? path, path", "refused: character 7: one symbol is asked for, or one pattern"),
             (
                 'path("\\ud800",1,2)',
                 "refused: 'utf-8' codec can't encode character '\\ud800' in position 0: surrogates not allowed",
@@ -1049,7 +1091,11 @@ class Commands(Links):
                 "path(1,2)",
                 "refused: UnknownSymbol: refused 32: 'path' is declared with 3 arguments, and not with 2",
             ),
-            ("Path", "refused: no atom at byte 0 of 'Path'"),
+            (
+                "Path",
+                "refused: character 1: Path begins no fact: that is a word with a small first letter, as `a(1,b)` or "
+                "`c`",
+            ),
             (
                 ", ".join(["path(1,1,1)"] * 65),
                 "refused: Shape: refused 31: an operation has 1 to 64 atoms, and this one has 65",
@@ -1071,7 +1117,7 @@ class Commands(Links):
             "told 1:2",
             "refused: UnknownSymbol",
             "told 1:3",
-            "refused: no atom",
+            "refused: character 3: a comma is missing before y",
             "told 1:4",
             "path(1,2,4)",
         ):

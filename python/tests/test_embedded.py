@@ -1,6 +1,7 @@
 """Members of a log in a file, and what becomes of files."""
 
 import os
+import pty
 import shutil
 import sqlite3
 import subprocess
@@ -224,6 +225,42 @@ class DefaultLog(unittest.TestCase):
         self.assertIn("--engine URL", self.run_command(status=2)[1])
         self.assertIn("NoProgram", self.run_command("--engine", f"sqlite:///{self.program}.log", status=3)[1])
         self.assertIn("ValueError", self.run_command("--engine", "mysql://x", self.program, status=3)[1])
+
+    def test_what_may_be_typed_is_said_at_a_terminal(self) -> None:
+        self.program.write_text(f"% chr_columns path(from, to, length)\n{PATHS}:- chr_constraint coin/0, fare/2.\n")
+        env = {**os.environ, "PYTHONPATH": str(PACKAGE), "PYTHONDONTWRITEBYTECODE": "1"}
+        ours, terminal = pty.openpty()
+        words = [sys.executable, "-m", "chrrep.link", str(self.program)]
+        node = subprocess.Popen(words, stdin=terminal, stdout=subprocess.PIPE, stderr=subprocess.PIPE, env=env)
+        with node, open(ours, "wb", buffering=0) as types:
+            os.close(terminal)
+            assert node.stdout and node.stderr
+            said = [node.stderr.readline().decode() for _ in range(2)]
+            self.assertRegex(said[0], "^chrrep.link: the log is ")
+            wanted = "type path(1,2,3) to tell a fact, ? to see all, help for more"
+            self.assertEqual(said[1], f"chrrep.link: {wanted}\n")
+            types.write(b"path(1,2,3)\nhelp\npath(1,X,2)\n")
+            answers = [node.stdout.readline().decode() for _ in range(8)]
+            types.write(b"\x04")
+            self.assertEqual((node.wait(60), node.stderr.read()), (0, b""))
+        quoted = 'put it in double quotes, "X"'
+        self.assertEqual("".join(answers), f"""\
+told 1:1
+path(1,2,3)    tells a fact; several stand between commas
+"São Paulo"    within the brackets is a name; so is a word with a small first letter. Else: whole numbers
+?              shows all facts
+? path         shows those of one symbol
+? path(1,_,_)  shows those with these arguments; _ is any
+the facts of this program: path(from,to,length), coin, fare/2
+refused: character 8, argument 2 (to) of path: X is no name without quotes: {quoted}
+""")  # fmt: skip
+
+    def test_help_is_a_fact_where_the_program_has_it(self) -> None:
+        self.program.write_text(":- chr_constraint help/0.\n")
+        self.assertEqual(self.run_command(self.program, said="help\n?")[0], "told 1:1\nhelp\n")
+        self.program.with_name("other.chr").write_text(":- chr_constraint help/1.\n")
+        out = self.run_command(self.program.with_name("other.chr"), said="help\n")[0]
+        self.assertIn("? help(1)    shows those with these arguments", out)
 
     def is_refused(self, said: str, *words: str | Path) -> None:
         """Whether the command tells nothing, and one sentence of why."""

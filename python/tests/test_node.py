@@ -169,7 +169,8 @@ class Answers(unittest.TestCase):
             node.tell(("path", 1, 2, 7), ("path", 1, 3, 4), ("path", 2, 3, -1))
             self.assertEqual(node.show("path", 1, None, None), (("path", 1, 2, 7), ("path", 1, 3, 4)))
             self.assertEqual(node.show("path", None, 3, -1), (("path", 2, 3, -1),))
-            self.assertEqual((node.count("path"), node.count("path", None, 3, None), node.count("x")), (3, 2, 0))
+            self.assertEqual((node.count("path"), node.count("path", None, 3, None)), (3, 2))
+            self.assertEqual((node.show("path", 9, None, None), node.count("path", -(2**63), None, None)), ((), 0))
 
     def test_a_node_says_what_it_is(self) -> None:
         with Node(COINS, 7) as node:
@@ -259,6 +260,37 @@ class Refusals(unittest.TestCase):
                         call()
                     self.assertRegex(str(raised.exception), rf"^\w+: refused 3[012]: {re.escape(said)}$")
             self.assertEqual(node.summary(), ())
+
+    def test_what_cannot_be_shown_is_refused(self) -> None:
+        """As a tell of it would be, and with the names of its columns."""
+        program = "% chr_columns path(from, to, length)\n:- chr_constraint path/3, coin/0.\n"
+        rows: list[tuple[type[chrrep.Refused], list[Any], str]] = [
+            (chrrep.UnknownSymbol, ["paths"], "no symbol 'paths' is declared: is 'path' meant?"),
+            (chrrep.UnknownSymbol, ["paths", 1], "no symbol 'paths' is declared: is 'path' meant?"),
+            (chrrep.UnknownSymbol, ["path", 1, 2], "'path' is declared with 3 arguments, and not with 2"),
+            (chrrep.UnknownSymbol, ["coin", None], "'coin' is declared with 0 arguments, and not with 1"),
+            (chrrep.Shape, ["path", None, 2.5, 3],
+             "argument 2 (to) of ('path', None, 2.5, 3) is a float, and not a whole number"),
+            (chrrep.Shape, ["path", True, 2, 3],
+             "argument 1 (from) of ('path', True, 2, 3) is a bool, and not a whole number"),
+            (chrrep.Shape, ["path", 1, "x", None],
+             "argument 2 (to) of ('path', 1, 'x', None) is a string, and not a whole number"),
+            (chrrep.Shape, ["path", 1, b"x", None],
+             "argument 2 (to) of ('path', 1, b'x', None) is a bytes, and not a whole number"),
+            (chrrep.Shape, ["path", 1, 2, 2**63],
+             "argument 3 (length) of ('path', 1, 2, 9223372036854775808) does not fit 64 bits"),
+            (chrrep.Shape, [7], "(7,) is no atom, which is a name and its arguments"),
+        ]  # fmt: skip
+        with Node(program, 1) as node:
+            for kind, pattern, said in rows:
+                calls: list[Callable[..., object]] = [node.show, node.count]
+                for call in calls:
+                    with self.subTest(said), self.assertRaises(kind) as raised:
+                        call(*pattern)
+                    self.assertEqual(str(raised.exception), f"{kind.__name__}: {said}")
+            with self.assertRaisesRegex(chrrep.Shape, "argument 2 \\(to\\) of .* is a float"):
+                node.tell(("path", 1, 2.5, 3))  # type: ignore[arg-type]
+            self.assertEqual(node.show("coin"), ())
 
     def test_merges_are_taken_in_whole_or_not(self) -> None:
         with Node(PLAIN, 1) as node:

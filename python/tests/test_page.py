@@ -195,7 +195,8 @@ class Requests(Served):
     def test_lines_that_are_refused(self) -> None:
         member, page = self.serve()
         rows: list[tuple[str | bytes, int, str]] = [
-            ("Path", 422, "refused: no atom at byte 0 of 'Path'"),
+            ("Path", 422, "refused: character 1: Path begins no fact: "),
+            ("path(1,oat milk,2)", 422, 'refused: character 8, argument 2 of path: .* in double quotes, "oat milk"$'),
             ("path(1,2)", 422, "refused: UnknownSymbol: .* declared with 3 arguments, and not with 2"),
             ("path(1,2,9223372036854775808)", 422, "refused: Shape: .* does not fit 64 bits"),
             ("paths(1,2,3)", 422, "is 'path' meant"),

@@ -1,9 +1,9 @@
 """A node as a command, which shares its operations with others by a log.
 
-Standard input has a line of atoms, `path(1,2,7), path(rome,"São Paulo",1)`, for each operation to tell, and the line
-`?` to show the store. Each is answered by a line: `told ORIGIN:NUMBER` once the operation is in the log, the store, or
-what was refused. In between the node follows the log. It ends with its input; where it serves a page, with Ctrl-C or a
-SIGTERM.
+A line of facts, `path(1,2,7), path(rome,"São Paulo",1)`, tells them at once. The line `?` shows all facts that are
+left, `? path` those of one symbol, `? path(rome,_,_)` those with this argument, and `help` tells what may be typed. The
+answer is a line: `told ORIGIN:NUMBER` once what was told is in the log, the facts, or what was refused. In between the
+node follows the log. It ends with its input, and where it serves a page by Ctrl-C or a SIGTERM.
 """
 
 import argparse
@@ -11,7 +11,7 @@ import os
 import signal
 import sys
 import threading
-from collections.abc import Iterator
+from collections.abc import Callable, Iterator
 from contextlib import AbstractContextManager, nullcontext
 from functools import partial
 from pathlib import Path
@@ -19,7 +19,8 @@ from typing import Self
 
 from .. import Atom, Refused, RefusedProgram
 from ..lines import Lines, text_of
-from ..names import NameClash, named_atoms_of
+from ..names import NameClash, named_atoms_of, named_text, pattern_of
+from ..prompt import example_of, fault_words, help_of
 from .faults import LogUnusable
 from .log import LOG_NAME, PATIENCE, one_line
 from .member import BATCH, SNAPSHOT_AFTER, Member, join
@@ -29,7 +30,7 @@ ACCEPTED, REFUSED, FAULT, INTERRUPTED, TERMINATED = 0, 1, 3, 130, 143
 _STANDARD_INPUT, _STANDARD_OUTPUT = 0, 1
 _CHUNK = 65_536
 _LOOK_SECONDS = 0.2
-_WITHOUT_ATOMS = ("", "?")
+_QUESTION, _HELP = "?", "help"
 
 
 class Terminated(BaseException):
@@ -136,6 +137,7 @@ def _run(settings: argparse.Namespace, signals: Signals) -> None:
             _say(f"upgraded: rules {member.verdict.rules}, cases {member.verdict.cases}")
         else:
             member.when_rejoined = partial(_say_program, member)
+            _begin_prompt(member)
             with _page(member, settings.page):
                 _converse(member, signals, settings.page is not None)
 
@@ -186,23 +188,49 @@ def _converse(member: Member, signals: Signals, goes_on: bool) -> None:
         raise failures[0]
 
 
+def _begin_prompt(member: Member) -> None:
+    """Says to whoever sits at a terminal what may be typed."""
+    if os.isatty(_STANDARD_INPUT):
+        example = f"type {example_of(member.columns)} to tell a fact, ? to see all, {_HELP} for more"
+        print(f"chrrep.link: {example}", file=sys.stderr, flush=True)
+
+
 def _answer(member: Member, lines: list[bytes]) -> None:
     """Answers lines that came at once. Operations that follow each other are told together."""
     tells: list[tuple[Atom, ...]] = []
     for line in lines:
-        try:
-            text = text_of(line).strip()
-            atoms = named_atoms_of(text) if text not in _WITHOUT_ATOMS else ()
-        except ValueError as fault:
+        read = _read(member, line)
+        if isinstance(read, tuple):
+            tells.append(read)
+        elif read:
             _tell(member, tells)
-            _say(f"refused: {fault}")
-            continue
-        if atoms:
-            tells.append(atoms)
-        elif text:
-            _tell(member, tells)
-            _say(member.going_over(member.show_text))
+            _say(read())
     _tell(member, tells)
+
+
+def _read(member: Member, line: bytes) -> tuple[Atom, ...] | Callable[[], str] | None:
+    """The atoms that a line tells, or what answers it; None where it is empty."""
+    try:
+        text = text_of(line).strip()
+        if text.startswith(_QUESTION):
+            return partial(_shown, member, text)
+        if text == _HELP and 0 not in member.columns.symbols.get(_HELP, []):
+            return partial(help_of, member.columns)
+        return named_atoms_of(text) if text else None
+    except ValueError as fault:
+        said = f"refused: {fault_words(fault, member.columns)}"
+        return lambda: said
+
+
+def _shown(member: Member, text: str) -> str:
+    """The store, or what is asked for of it behind a question mark."""
+    try:
+        if text == _QUESTION:
+            return member.going_over(member.show_text)
+        symbol, pattern = pattern_of(text, len(_QUESTION))
+        return named_text(member.going_over(lambda: member.show(symbol, *pattern)))
+    except (ValueError, Refused) as fault:
+        return f"refused: {fault_words(fault, member.columns)}"
 
 
 def _tell(member: Member, tells: list[tuple[Atom, ...]]) -> None:

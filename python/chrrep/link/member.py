@@ -11,9 +11,10 @@ from itertools import count, repeat
 from types import TracebackType
 from typing import NamedTuple, Self, TypeVar
 
+from ..columns import Columns
 from ..names import NameClash, Names, named_text, number_of, numbered
 from ..node import ANSWER_SECONDS
-from ..refusals import Full, NodeDied, Refused, RefusedProgram, WrongProcess
+from ..refusals import BadLine, Full, NodeDied, Refused, RefusedProgram, Shape, WrongProcess
 from ..stores import StoreReader
 from ..texts import (
     Atom,
@@ -21,11 +22,13 @@ from ..texts import (
     Id,
     ProgramText,
     Verdict,
+    atoms_of,
     atoms_text,
     changes_between,
     found_in,
     program_bytes,
 )
+from ..words import Wanted, check_pattern, shape_fault
 from .faults import (
     Diverged,
     LinkLost,
@@ -155,6 +158,11 @@ class Member:
         return self._replica.node.verdict
 
     @property
+    def columns(self) -> Columns:
+        """What the program's text tells of symbols and their columns."""
+        return self._columns
+
+    @property
     def pid(self) -> int:
         """The id of the node's process, which is another one after the node was renewed."""
         return self._replica.node.pid
@@ -232,11 +240,11 @@ class Member:
     def show(self, symbol: str | None = None, *pattern: str | int | None) -> tuple[Atom, ...]:
         """The store at rest of all that is in the log by now, or of it the atoms that a `Node` shows for a pattern. A
         number whose name was told is given as the name."""
-        text = self._show()
         if symbol is None:
-            return self._store.atoms_of(text, len(self._names))
+            return self._store.atoms_of(self._show(), len(self._names))
+        check_pattern((symbol, *pattern), self.columns.symbols, self._wanted)
         numbers = (number_of(value) if isinstance(value, str) else value for value in pattern)
-        return self._names.named(found_in(text, symbol, *numbers))
+        return self._names.named(found_in(self._show(), symbol, *numbers))
 
     def show_text(self) -> str:
         """The store at rest of all that is in the log by now, as it is printed, with names."""
@@ -443,10 +451,25 @@ class Member:
         if texts is not None:
             return Admitted(texts, [])
         # there are names, or what is to be refused
-        texts = self._asked([[numbered(atom) for atom in atoms] for atoms in operations])
+        with self._in_words(operations):
+            texts = self._asked([[numbered(atom) for atom in atoms] for atoms in operations])
         for name in self._names.of(atom for atoms in operations for atom in atoms).values():
             self.link.check_name(name)
         return Admitted(texts, operations)
+
+    @contextmanager
+    def _in_words(self, operations: Operations) -> Iterator[None]:
+        """Says of operations that are refused what is wrong with the first of them, by their names."""
+        try:
+            yield
+        except (BadLine, Shape) as refusal:
+            faults = (shape_fault(atoms_text(atoms), self._wanted) for atoms in operations)
+            refusal.say(next(filter(None, faults), None))
+            raise
+
+    @property
+    def _wanted(self) -> Wanted:
+        return Wanted(self._columns.argument, takes_names=True)
 
     def _asked(self, operations: list[list[Atom]]) -> list[str]:
         """Operations without names as they are appended, of which the node was asked where it has to be."""
@@ -471,6 +494,7 @@ class Member:
 
     def _take_up(self, replica: Replica, state: State) -> None:
         self._replica, self._epoch, self._generation = replica, state.epoch, state.generation
+        self._columns = replica.node.columns
         self._late = None
 
     def _replace(self, replica: Replica, state: State) -> None:
@@ -658,7 +682,13 @@ class Member:
     def _compare(self, there: State) -> None:
         """Raises `Diverged` where the snapshot of this position is another store."""
         if there.position == self._replica.position and there.store != (ours := self._replica.show()):
-            raise Diverged(dict(there.position), ours, there.store)
+            raise Diverged(dict(there.position), self._with_names(ours), self._with_names(there.store))
+
+    def _with_names(self, store: str) -> str:
+        """A store's text as it is shown; as it is where it is none."""
+        with suppress(ValueError):
+            return named_text(self._names.named(atoms_of(store)))
+        return store
 
 
 @contextmanager

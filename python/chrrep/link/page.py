@@ -23,6 +23,7 @@ from typing import Any, NamedTuple
 from urllib.parse import SplitResult, parse_qs, urlsplit
 
 from ..names import NameClash, named_atoms_of, named_text
+from ..prompt import fault_words
 from ..refusals import ChrrepError, Refused
 from ..texts import LINE_LIMIT, Atom, Change, atoms_of
 from .faults import LinkLost, PageUnusable
@@ -466,7 +467,9 @@ def _told(member: Member, line: str) -> tuple[HTTPStatus, str]:
     try:
         atoms = named_atoms_of(line.strip())
         id = member.going_over(lambda: member.tell(*atoms))
-    except (ValueError, Refused, NameClash) as refusal:
+    except ValueError as fault:
+        return HTTPStatus.UNPROCESSABLE_ENTITY, f"refused: {fault_words(fault, member.columns)}"
+    except (Refused, NameClash) as refusal:
         return HTTPStatus.UNPROCESSABLE_ENTITY, f"refused: {one_line(refusal)}"
     except LinkLost as lost:
         return HTTPStatus.SERVICE_UNAVAILABLE, f"{one_line(lost)}: it may be told, or not"
