@@ -5,14 +5,18 @@
 names the three columns of `seen/3`. It is a comment, for the verdict and for Prolog.
 """
 
+import difflib
 import re
 import sys
 import warnings
-from collections.abc import Iterator
+from collections.abc import Iterable, Iterator, Mapping, Sequence
 from functools import cached_property
-from typing import NamedTuple, TypeAlias
+from typing import NamedTuple, TypeAlias, TypeVar
 
+from .refusals import UnknownColumn, UnknownSymbol
 from .words import Symbols, symbol_words, symbols_of
+
+T = TypeVar("T")
 
 Symbol: TypeAlias = tuple[str, int]
 """A name, and a number of arguments."""
@@ -76,6 +80,17 @@ class Columns:
         all_ = [arguments] if arguments is not None else self.symbols.get(name, [])
         return self.named.get((name, all_[0]), ()) if len(all_) == 1 else ()
 
+    def patterns(self, name: str, values: Mapping[str, T]) -> list[tuple[tuple[str, ...], list[T | None]]]:
+        """The names of the columns of a symbol, and the pattern that has these values under them; for each number of
+        arguments by which all of them are known. Raises `UnknownColumn`."""
+        if name not in self.symbols:
+            raise UnknownSymbol(symbol_words(name, len(values), self.symbols))
+        known = [names for (symbol, _), names in self.named.items() if symbol == name]
+        found = [names for names in known if values.keys() <= set(names)]
+        if not found:
+            raise UnknownColumn(_column_words(name, [*values], known))
+        return [(names, [values.get(column) for column in names]) for names in found]
+
     def first(self) -> Symbol | None:
         """The first symbol that the program declares."""
         return next(((name, arguments[0]) for name, arguments in self.symbols.items()), None)
@@ -125,6 +140,29 @@ class Columns:
             self.named[symbol, len(names)] = tuple(names)
 
 
+class OrderWarnings:
+    """Warns, once for each column, of names that are told where a rule compares numbers by their order."""
+
+    def __init__(self, columns: Columns) -> None:
+        self._columns = columns
+        self._left = {(name, arguments + 1): dict(rules) for (name, arguments), rules in columns.by_order.items()}
+
+    def look_at(self, atoms: Iterable[Sequence[str | int]]) -> None:
+        """Looks at atoms that are to be told."""
+        for atom in atoms if self._left else ():
+            places = self._left.get((str(atom[0]), len(atom)))
+            for place in [place for place in places or () if isinstance(atom[place], str)]:
+                self._warn(atom, place, self._left[str(atom[0]), len(atom)].pop(place))
+
+    def _warn(self, atom: Sequence[str | int], place: int, rule: str) -> None:
+        argument = self._columns.argument(str(atom[0]), len(atom) - 1, place)
+        warn(
+            f"{rule} compares {argument} of {atom[0]} by order, and {_shown(str(atom[place]))!r} is told there: "
+            "names have an order, one at all nodes, that means nothing, so tell numbers where it is to mean something",
+            OrderWarning,
+        )
+
+
 class _Rule(NamedTuple):
     said: str
     heads: list[tuple[str, list[str]]]
@@ -146,6 +184,15 @@ def _atoms_of(text: str) -> list[tuple[str, list[str]]]:
         (name, [argument.strip() for argument in arguments.split(",")] if arguments else [])
         for name, arguments in _ATOM.findall(text)
     ]
+
+
+def _column_words(name: str, columns: list[str], known: list[tuple[str, ...]]) -> str:
+    """What is wrong with columns that a symbol hasn't."""
+    if not known:
+        return f"no columns of {name!r} have names: write `% chr_columns {name}(one, two)` into the program"
+    column = next((it for it in columns if all(it not in names for names in known)), columns[0])
+    near = difflib.get_close_matches(column, [it for names in known for it in names], 1)
+    return f"{name!r} has no column {_shown(column)!r}" + (f": is {near[0]!r} meant?" if near else "")
 
 
 def called(place: int, names: tuple[str, ...]) -> str:

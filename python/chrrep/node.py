@@ -49,7 +49,7 @@ from .texts import (
     text_pieces,
     verdict_of,
 )
-from .words import Wanted, check_pattern, shape_fault, symbol_fault
+from .words import Wanted, check_pattern, file_words, shape_fault, symbol_fault
 
 _REPLICA = 1
 _NO_REPLICA = 0
@@ -146,6 +146,7 @@ def _judged(answer: str, text: bytes, chrrep: str | os.PathLike[str] | None, wid
         return verdict_of(answer, wide) or raise_verdict(answer, wide)
     except RefusedProgram as refusal:
         refusal.explained_by(lambda: explain(text, chrrep, wide=wide))
+        refusal.say(file_words(text))
         raise
 
 

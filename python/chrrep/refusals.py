@@ -221,6 +221,10 @@ class UnknownSymbol(Refused):
     number = 32
 
 
+class UnknownColumn(UnknownSymbol):
+    """A column that no symbol has by this name: `% chr_columns ..` in the program names them."""
+
+
 class Clash(Refused):
     """An id that stands for other atoms already."""
 

@@ -13,6 +13,8 @@ _LEAST, _GREATEST = -(2**63), 2**63 - 1
 _COMMENT = re.compile(rb"%[^\n]*")
 _DECLARATION = re.compile(rb":-\s*chr_constraint\b([^.]*)\.")
 _SYMBOL = re.compile(rb"([a-z]\w*)\s*/\s*(\d+)")
+# a text that is a program has a sign of a clause, or a full stop at its end
+_FILE_NAME = re.compile(r"[^\n%<>=@|():\\]*[\w-]\.\w{1,8}")
 _SURROGATE = re.compile("[\ud800-\udfff]")
 
 Symbols = dict[str, list[int]]
@@ -38,6 +40,14 @@ class Wanted(NamedTuple):
     def takes(self, argument: object) -> bool:
         is_name = self.takes_names and isinstance(argument, str) and not _SURROGATE.search(argument)
         return is_name or self.takes_any and argument is None
+
+
+def file_words(program: bytes) -> str | None:
+    """What is wrong with a program text that is the name of a file; None where it isn't one."""
+    text = program.decode(errors="replace").strip()
+    if not _FILE_NAME.fullmatch(text):
+        return None
+    return f"this text looks like the name of a file, which is given as Path({_cut(repr(text))})"
 
 
 def symbols_of(program: bytes) -> Symbols:

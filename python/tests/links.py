@@ -1215,7 +1215,7 @@ class Outages(Links):
         self.assertEqual(member.show(), (("a", 1), ("a", 3)))
 
     def test_a_command_whose_engine_is_not_there(self) -> None:
-        """At first, or later on: one sentence, and what was acknowledged stays."""
+        """At first, or later on: a sentence at once and one at the end, and what was acknowledged stays."""
         command = self.command("--patience", "3")
         self.assertEqual(command.ask("path(1,2,3)"), "told 1:1")
         self.engine.stop()
@@ -1225,6 +1225,7 @@ class Outages(Links):
             self.engine.start()
         for status, told in ends:
             said = told.removeprefix(STOPPED)
-            self.assertEqual((status, said.count("\n")), (3, 1), told)
-            self.assertRegex(said, "^chrrep.link: LinkLost: the engine doesn't answer: ")
+            self.assertEqual((status, said.count("\n")), (3, 2), told)
+            away = "chrrep.link: the engine doesn't answer, and is asked again for [0-9]+ seconds: .*\n"
+            self.assertRegex(said, f"^{away}chrrep.link: LinkLost: the engine doesn't answer: ")
         self.assertEqual(self.member().show(), (("path", 1, 2, 3),))

@@ -7,12 +7,14 @@ node follows the log. It ends with its input, and where it serves a page by Ctrl
 """
 
 import argparse
+import logging
 import os
 import signal
 import sys
 import threading
+import warnings
 from collections.abc import Callable, Iterator
-from contextlib import AbstractContextManager, nullcontext
+from contextlib import AbstractContextManager, nullcontext, suppress
 from functools import partial
 from pathlib import Path
 from typing import Self
@@ -41,6 +43,8 @@ def main(words: list[str] | None = None) -> int:
     """Runs the command, and gives its exit status: 0 at the input's end, 1 for a refused program, 3 for a fault, 130
     and 143 after Ctrl-C and SIGTERM."""
     settings = _settings(words)
+    logging.basicConfig(format="chrrep.link: %(message)s")
+    warnings.showwarning = _warn
     try:
         with Signals() as signals:
             _run(settings, signals)
@@ -55,6 +59,10 @@ def main(words: list[str] | None = None) -> int:
         print(f"chrrep.link: {type(fault).__name__}: {one_line(fault)}", file=sys.stderr)
         return FAULT
     return ACCEPTED
+
+
+def _warn(message: Warning | str, *_: object, **__: object) -> None:
+    print(f"chrrep.link: {' '.join(str(message).split())}", file=sys.stderr, flush=True)
 
 
 class Signals:
@@ -126,7 +134,19 @@ def _settings(words: list[str] | None) -> argparse.Namespace:
 
 
 def _run(settings: argparse.Namespace, signals: Signals) -> None:
-    engine = settings.engine or _beside(settings.program or settings.upgrade)
+    if settings.engine:
+        return _serve(settings, settings.engine, signals)
+    program = settings.program or settings.upgrade
+    folder = _folder_beside(program)
+    try:
+        _serve(settings, f"{PREFIX}{folder / program.stem}.sqlite", signals)
+    finally:
+        # one without a log was made in vain
+        with suppress(OSError):
+            folder.rmdir()
+
+
+def _serve(settings: argparse.Namespace, engine: str, signals: Signals) -> None:
     options = {name: getattr(settings, name) for name in ("origin", "log", "patience", "snapshot_after")}
     is_wide = settings.wide or None
     with join(engine, settings.program, wide=None if settings.upgrade else is_wide, **options) as member:
@@ -154,14 +174,14 @@ def _page(member: Member, port: int | None) -> AbstractContextManager[object]:
     return page
 
 
-def _beside(program: Path) -> str:
-    """The address of the log in the folder `.chrrep` beside a program text, which is made where it isn't there."""
+def _folder_beside(program: Path) -> Path:
+    """The folder `.chrrep` beside a program text, which is made where it isn't there."""
     folder = program.resolve().parent / ".chrrep"
     try:
         folder.mkdir(exist_ok=True)
     except OSError as fault:
         raise LogUnusable(f"the folder of the log can't be made: {fault}") from fault
-    return f"{PREFIX}{folder / program.stem}.sqlite"
+    return folder
 
 
 def _converse(member: Member, signals: Signals, goes_on: bool) -> None:

@@ -7,11 +7,12 @@ import threading
 import weakref
 from collections.abc import Callable, Iterable, Iterator, Sequence
 from contextlib import contextmanager, suppress
+from functools import partial
 from itertools import count, repeat
 from types import TracebackType
 from typing import NamedTuple, Self, TypeVar
 
-from ..columns import Columns
+from ..columns import Columns, ColumnsWarning, OrderWarnings, warn
 from ..names import NameClash, Names, named_text, number_of, numbered
 from ..node import ANSWER_SECONDS
 from ..refusals import BadLine, Full, NodeDied, Refused, RefusedProgram, Shape, WrongProcess
@@ -101,6 +102,9 @@ class Member:
     for. Calls may come from any thread. Leaving a `with` ends the node; the link is closed by whoever opened it.
     """
 
+    _brought: Replica | None = None
+    """A node of the program that is brought, where one was made before the link."""
+
     def __init__(
         self,
         link: Link,
@@ -129,12 +133,12 @@ class Member:
         self._running = Running(chrrep, timeout)
         self._listeners: list[Callable[[Sequence[Entry]], object]] = []
         self.when_rejoined: Callable[[], object] | None = None
-        self._replica: Replica
         self._epoch: int
         self._generation: int
-        self._take_up(*_joined(link, program, wide, self._running))
+        self._replica, state = _joined(link, program, wide, self._running, self._brought)
         link.position = _position_of(weakref.ref(self))
         try:
+            self._take_up(self._replica, state)
             while not self._is_caught_up():
                 # the log may have gone over to a program that is not the one brought
                 self._replace(*_joined(link, program, wide, self._running))
@@ -245,6 +249,16 @@ class Member:
         check_pattern((symbol, *pattern), self.columns.symbols, self._wanted)
         numbers = (number_of(value) if isinstance(value, str) else value for value in pattern)
         return self._names.named(found_in(self._show(), symbol, *numbers))
+
+    def show_named(self, symbol: str, /, **values: str | int) -> tuple[dict[str, str | int], ...]:
+        """The facts of a symbol whose columns have names, `% chr_columns seen(parcel, time, place)`, by these; with
+        values only the facts that have them: `show_named("seen", parcel="box")`. Raises `UnknownColumn`, and what
+        `show` raises."""
+        return tuple(
+            dict(zip(names, arguments))
+            for names, pattern in self.columns.patterns(symbol, values)
+            for _, *arguments in self.show(symbol, *pattern)
+        )
 
     def show_text(self) -> str:
         """The store at rest of all that is in the log by now, as it is printed, with names."""
@@ -453,6 +467,7 @@ class Member:
         # there are names, or what is to be refused
         with self._in_words(operations):
             texts = self._asked([[numbered(atom) for atom in atoms] for atoms in operations])
+        self._order.look_at(atom for atoms in operations for atom in atoms)
         for name in self._names.of(atom for atoms in operations for atom in atoms).values():
             self.link.check_name(name)
         return Admitted(texts, operations)
@@ -495,7 +510,10 @@ class Member:
     def _take_up(self, replica: Replica, state: State) -> None:
         self._replica, self._epoch, self._generation = replica, state.epoch, state.generation
         self._columns = replica.node.columns
+        self._order = OrderWarnings(self._columns)
         self._late = None
+        for fault in self._columns.faults:
+            warn(f"the program names columns in vain: {fault}", ColumnsWarning)
 
     def _replace(self, replica: Replica, state: State) -> None:
         """Goes on with another replica, of what the log has by now."""
@@ -691,7 +709,34 @@ class Member:
         return store
 
 
-@contextmanager
+class Joined(Member):
+    """A member that closes its link too."""
+
+    def __init__(
+        self,
+        connects: Callable[[], Link],
+        program: bytes | None,
+        brought: Replica | None,
+        *,
+        wide: bool | None,
+        timeout: float | None,
+        snapshot_after: int,
+    ) -> None:
+        self._brought = brought
+        link = connects()
+        try:
+            super().__init__(link, program, wide=wide, timeout=timeout, snapshot_after=snapshot_after)
+        except BaseException:
+            link.close()
+            raise
+        self._brought = None
+
+    def close(self) -> None:
+        """Ends the node, and closes the link."""
+        super().close()
+        self.link.close()
+
+
 def join(
     url: str,
     program: ProgramText | None = None,
@@ -702,13 +747,36 @@ def join(
     wide: bool | None = None,
     timeout: float | None = ANSWER_SECONDS,
     snapshot_after: int = SNAPSHOT_AFTER,
-) -> Iterator[Member]:
-    """A member of the log in the engine that the address names, as `connect` and `Member` say; all is closed after."""
-    with (
-        connect(url, origin, log=log, patience=patience) as link,
-        Member(link, program, wide=wide, timeout=timeout, snapshot_after=snapshot_after) as member,
-    ):
-        yield member
+) -> Member:
+    """A member of the log in the engine that the address names, as `connect` and `Member` say. Its `close`, or leaving
+    a `with`, closes all. Where the program is refused, or there is none, no file is made."""
+    text = None if program is None else program_bytes(program)
+    brought = _brought(text, wide, Running(timeout=timeout)) if _makes_file(url) else None
+    connects = partial(connect, url, origin, log=log, patience=patience)
+    try:
+        return Joined(connects, text, brought, wide=wide, timeout=timeout, snapshot_after=snapshot_after)
+    except BaseException:
+        if brought:
+            brought.close()
+        raise
+
+
+def _makes_file(url: str) -> bool:
+    """Whether to connect makes a file."""
+    if not url.startswith("sqlite:"):
+        return False
+    from .sqlite import PREFIX
+
+    path = url.removeprefix(PREFIX)
+    is_file = path not in ("", url) and os.path.isdir(os.path.dirname(os.path.abspath(path)))
+    return is_file and not os.path.exists(path)
+
+
+def _brought(text: bytes | None, wide: bool | None, running: Running) -> Replica:
+    """A node of a program that is brought to a log. What is refused is no log's program."""
+    if text is None:
+        raise NoProgram
+    return Replica(Program(text, wide), running)
 
 
 def _position_of(reference: "weakref.ref[Member]") -> Callable[[], Position]:
@@ -723,19 +791,15 @@ def _position_of(reference: "weakref.ref[Member]") -> Callable[[], Position]:
 
 
 def _joined(
-    link: Link, program: ProgramText | None, wide: bool | None, running: Running
+    link: Link, program: ProgramText | None, wide: bool | None, running: Running, replica: Replica | None = None
 ) -> tuple[Replica, State]:
     """A node of the log's program, which is the one brought where the log has none, and what the log and the node go on
-    from."""
+    from. A node of the program that is brought may be there already."""
     text = None if program is None else program_bytes(program)
     state = link.state()
-    replica: Replica | None = None
     try:
         if state.program is None:
-            if text is None:
-                raise NoProgram
-            # what is refused is no log's program
-            replica = Replica(Program(text, wide), running)
+            replica = replica or _brought(text, wide, running)
             link.begin(replica.program)
             state = link.state()
         assert state.program
