@@ -1,9 +1,15 @@
-"""A node as a command, which shares its operations with others by a log.
+"""Keeps facts by the rules of a program, together with all nodes that have the same log.
 
-A line of facts, `path(1,2,7), path(rome,"São Paulo",1)`, tells them at once. The line `?` shows all facts that are
-left, `? path` those of one symbol, `? path(rome,_,_)` those with this argument, and `help` tells what may be typed. The
-answer is a line: `told ORIGIN:NUMBER` once what was told is in the log, the facts, or what was refused. In between the
-node follows the log. It ends with its input, and where it serves a page by Ctrl-C or a SIGTERM.
+Type facts, on one line between commas. The answer `told ORIGIN:NUMBER` says that they are in the log, and safe.
+
+  path(1,2,7), path(rome,"São Paulo",1)   tells two facts
+  ?                                       shows all facts that the rules have left
+  ? path                                  shows those of one symbol
+  ? path(rome,_,_)                        shows those with this argument; _ is any
+  help                                    shows the facts that this program has
+
+A line that is refused is answered by what is wrong with it. The end of the input (control-D) ends the node; with a page
+it goes on until Ctrl-C or a SIGTERM.
 """
 
 import argparse
@@ -33,6 +39,11 @@ _STANDARD_INPUT, _STANDARD_OUTPUT = 0, 1
 _CHUNK = 65_536
 _LOOK_SECONDS = 0.2
 _QUESTION, _HELP = "?", "help"
+_INSTALLED = "chrrep-link"
+_STATUSES = (
+    "Exit status: 0 the input has ended, 1 the program is refused, 2 these words are no command, 3 something failed and"
+    " is\ntold on standard error, 130 Ctrl-C, 143 SIGTERM. docs/NODES.md has the rest."
+)
 
 
 class Terminated(BaseException):
@@ -103,26 +114,32 @@ class Signals:
 
 def _settings(words: list[str] | None) -> argparse.Namespace:
     parser = argparse.ArgumentParser(
-        prog="python -m chrrep.link", description=__doc__, formatter_class=argparse.RawDescriptionHelpFormatter
+        prog=_INSTALLED if Path(sys.argv[0]).name == _INSTALLED else "python -m chrrep.link",
+        description=__doc__,
+        epilog=_STATUSES,
+        formatter_class=argparse.RawDescriptionHelpFormatter,
     )
     add = parser.add_argument
-    engines = "sqlite:///PATH, redis://HOST:PORT/DB or postgresql://USER@HOST:PORT/DB"
-    add("--engine", metavar="URL", help=f"{engines}; left out, a file in the folder .chrrep beside the program text")
-    add("--origin", type=int, metavar="N", help="this node's number, which no other has; left out, one is allotted")
-    add("--log", default=LOG_NAME, metavar="NAME", help=f"the log's name in the engine ({LOG_NAME})")
-    away = f"how long the engine may be away ({PATIENCE:.0f})"
-    add("--patience", default=PATIENCE, type=float, metavar="SECONDS", help=away)
+    add("program", nargs="?", type=Path, metavar="PROGRAM", help="the file with the rules; without it, the log's own")
+    engine = (
+        "where the log is: sqlite:///PATH, redis://HOST:PORT/DB or postgresql://USER@HOST:PORT/DB; without it, a file "
+        "in the folder .chrrep beside PROGRAM"
+    )
+    add("--engine", metavar="URL", help=engine)
+    add("--log", default=LOG_NAME, metavar="NAME", help=f"which log, where the engine has several ({LOG_NAME})")
+    page = "show the facts in a browser too, at http://127.0.0.1:PORT/; 0 takes a free port"
+    add("--page", type=int, metavar="PORT", help=page)
+    add("--upgrade", type=Path, metavar="NEW", help="have the log go over to the rules in the file NEW, and end")
     wide = (
-        "decide by the columns that rules compare: more programs are decided; left out, the program is judged so where "
-        "there are too many cases else"
+        "decide by the columns that rules compare: more programs are decided; without it, only where there would be "
+        "too many cases"
     )
     add("--wide", action="store_true", help=wide)
-    after = f"atoms that are told from one snapshot to the next ({SNAPSHOT_AFTER})"
+    away = f"how long to wait for an engine that doesn't answer ({PATIENCE:.0f})"
+    add("--patience", default=PATIENCE, type=float, metavar="SECONDS", help=away)
+    add("--origin", type=int, metavar="N", help="the ORIGIN of what this node tells; without it, a free one")
+    after = f"after how many told facts the log keeps what is left of all in their place ({SNAPSHOT_AFTER})"
     add("--snapshot-after", default=SNAPSHOT_AFTER, type=int, metavar="N", help=after)
-    add("--upgrade", type=Path, metavar="NEW", help="have the log go over to this program text, and end")
-    page = "serve a page on this port of loopback that shows the store, the members and what is told; 0 is any port"
-    add("--page", type=int, metavar="PORT", help=page)
-    add("program", nargs="?", type=Path, metavar="PROGRAM", help="the file of the program text; left out, the log's")
     settings = parser.parse_args(words)
     if settings.upgrade and settings.program:
         parser.error("with --upgrade NEW the log has the PROGRAM")
