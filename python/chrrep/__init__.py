@@ -12,6 +12,7 @@ other nodes.
 nodes exchange their operations over an engine. Nothing beside the standard library is needed here.
 """
 
+from .columns import ColumnsWarning, OrderWarning
 from .node import ANSWER_SECONDS, Node, check, explain
 from .refusals import (
     BadByte,
@@ -37,6 +38,7 @@ from .refusals import (
     Unbound,
     Undeclared,
     Unended,
+    UnknownColumn,
     UnknownSymbol,
     WeightFault,
     WrongProcess,
@@ -51,6 +53,7 @@ __all__ = [
     "Change",
     "ChrrepError",
     "Clash",
+    "ColumnsWarning",
     "DeclaredTwice",
     "Full",
     "Id",
@@ -61,6 +64,7 @@ __all__ = [
     "NotLowered",
     "NumberRange",
     "Operation",
+    "OrderWarning",
     "Overlap",
     "ProgramText",
     "Propagation",
@@ -75,6 +79,7 @@ __all__ = [
     "Unbound",
     "Undeclared",
     "Unended",
+    "UnknownColumn",
     "UnknownSymbol",
     "Verdict",
     "WeightFault",

@@ -12,16 +12,17 @@ whose `await` is cancelled goes on there to its end: what it was telling may be 
 
 import asyncio
 import os
-from collections.abc import AsyncIterator, Callable, Iterable
+from collections.abc import AsyncIterator, Callable, Generator, Iterable
 from concurrent.futures import Future, ThreadPoolExecutor
-from contextlib import asynccontextmanager, suppress
+from contextlib import suppress
 from functools import partial
 from types import TracebackType
 from typing import ParamSpec, Self, TypeVar
 
 from .link.following import LOOK_SECONDS, Watch
-from .link.log import LOG_NAME, PATIENCE, Link, connect
+from .link.log import LOG_NAME, PATIENCE, Link
 from .link.member import SNAPSHOT_AFTER, Member
+from .link.member import join as link_join
 from .node import UNASKED, Node, Timeout
 from .refusals import WrongProcess
 from .texts import Atom, Change, Id, Operation, ProgramText, Summary, Verdict
@@ -75,7 +76,7 @@ class AsyncNode:
         origin: int,
         *,
         chrrep: str | os.PathLike[str] | None = None,
-        wide: bool = False,
+        wide: bool | None = None,
         timeout: Timeout = UNASKED,
     ) -> None:
         self._make = partial(Node, program, origin, chrrep=chrrep, wide=wide, timeout=timeout)
@@ -172,6 +173,7 @@ class AsyncMember:
         self.member = member
         self._caller = caller
         self._waits = Caller("member", "waits")
+        self._is_closed = False
 
     @property
     def link(self) -> Link:
@@ -213,6 +215,10 @@ class AsyncMember:
         """As `Member.show`."""
         return await self._caller.call(self.member.show, symbol, *pattern)
 
+    async def show_named(self, symbol: str, /, **values: str | int) -> tuple[dict[str, str | int], ...]:
+        """As `Member.show_named`."""
+        return await self._caller.call(partial(self.member.show_named, symbol, **values))
+
     async def show_text(self) -> str:
         """As `Member.show_text`."""
         return await self._caller.call(self.member.show_text)
@@ -235,7 +241,7 @@ class AsyncMember:
         """As `Member.snapshot`."""
         return await self._caller.call(self.member.snapshot)
 
-    async def upgrade(self, program: ProgramText, *, wide: bool = False) -> None:
+    async def upgrade(self, program: ProgramText, *, wide: bool | None = None) -> None:
         """As `Member.upgrade`."""
         await self._caller.call(self.member.upgrade, program, wide=wide)
 
@@ -244,16 +250,47 @@ class AsyncMember:
         return await self._caller.call(self.member.rejoin)
 
     async def close(self) -> None:
-        """Ends the node, as `Member.close`."""
-        await self._caller.call(self.member.close)
-        self._waits.end()
+        """Ends the node, and closes the link. To close twice is no fault."""
+        if not self._is_closed:
+            await self._caller.call(self.member.close)
+            self._is_closed = True
+            self._waits.end()
+            self._caller.end()
 
     def __repr__(self) -> str:
         return f"<chrrep.asynchronous.AsyncMember: {self.member!r}>"
 
 
-@asynccontextmanager
-async def join(
+class Joining:
+    """A member that is yet to come: `async with` gives it, and closes it; so does `await`, for who closes it."""
+
+    def __init__(self, makes: Callable[[], Member]) -> None:
+        self._makes = makes
+        self._member: AsyncMember | None = None
+
+    def __await__(self) -> Generator[object, None, AsyncMember]:
+        return self._made().__await__()
+
+    async def __aenter__(self) -> AsyncMember:
+        self._member = await self._made()
+        return self._member
+
+    async def __aexit__(
+        self, kind: type[BaseException] | None, error: BaseException | None, trace: TracebackType | None
+    ) -> None:
+        if self._member:
+            await self._member.close()
+
+    async def _made(self) -> AsyncMember:
+        caller = Caller("member")
+        try:
+            return AsyncMember(await caller.make(self._makes, lambda member: member.close()), caller)
+        except BaseException:
+            caller.end()
+            raise
+
+
+def join(
     url: str,
     program: ProgramText | None = None,
     *,
@@ -263,19 +300,10 @@ async def join(
     wide: bool | None = None,
     timeout: Timeout = UNASKED,
     snapshot_after: int = SNAPSHOT_AFTER,
-) -> AsyncIterator[AsyncMember]:
-    """A member of the log in the engine that the address names, as `chrrep.link.join`; all is closed after."""
-    caller = Caller("member")
-    try:
-        link = await caller.make(partial(connect, url, origin, log=log, patience=patience), Link.close)
-        try:
-            make = partial(Member, link, program, wide=wide, timeout=timeout, snapshot_after=snapshot_after)
-            member = AsyncMember(await caller.make(make, Member.close), caller)
-            try:
-                yield member
-            finally:
-                await member.close()
-        finally:
-            await caller.call(link.close)
-    finally:
-        caller.end()
+) -> Joining:
+    """A member of the log in the engine that the address names, as `chrrep.link.join`: `async with join(..) as member`,
+    or `member = await join(..)` and later `await member.close()`."""
+    return Joining(partial(
+        link_join, url, program, origin=origin, log=log, patience=patience, wide=wide, timeout=timeout,
+        snapshot_after=snapshot_after,
+    ))  # fmt: skip

@@ -12,14 +12,14 @@ from collections.abc import Iterable
 
 from .refusals import ChrrepError, Refused
 from .texts import Atom
+from .typed import ANY, ARGUMENT, WORD, facts_of, pattern_in
 
 _MOST_DIGITS = 19
 """Digits of a number of 64 bits, at most."""
-_BARE = re.compile(r"[a-z][A-Za-z0-9_]*", re.ASCII)
-_ARGUMENT = r'-?[0-9]+|[a-z][A-Za-z0-9_]*|"(?:[^"\\]|\\.)*"'
-_ARGUMENTS = re.compile(_ARGUMENT, re.ASCII)
+_BARE = re.compile(WORD, re.ASCII)
+_ARGUMENTS = re.compile(ARGUMENT, re.ASCII)
 _ATOM = re.compile(
-    rf"\s*([a-z][A-Za-z0-9_]*)\s*(?:\(\s*((?:{_ARGUMENT})(?:\s*,\s*(?:{_ARGUMENT}))*)\s*\)\s*)?(,|\Z)", re.ASCII
+    rf"\s*({WORD})\s*(?:\(\s*((?:{ARGUMENT})(?:\s*,\s*(?:{ARGUMENT}))*)\s*\)\s*)?(,|\Z)", re.ASCII
 )
 
 
@@ -36,7 +36,7 @@ class NameClash(ChrrepError):
 
     def __init__(self, number: int, names: tuple[str, str]) -> None:
         self.number, self.names = number, names
-        super().__init__(f"the names {names[0]!r} and {names[1]!r} have one number, {number}: change one of them")
+        super().__init__(f"the names {names[0]!r} and {names[1]!r} have one number: change one of them")
 
 
 class UnkeptName(Refused):
@@ -103,16 +103,36 @@ def numbered(atom: Atom) -> Atom:
 
 
 def named_atoms_of(text: str) -> tuple[Atom, ...]:
-    """The atoms of a line: `path(berlin,"São Paulo",1050), coin`, in its order. ValueError where it has none."""
+    """The atoms of a line: `path(berlin,"São Paulo",1050), coin`, in its order. ValueError where it has none, which
+    says what is wrong and where."""
     atoms: list[Atom] = []
     at, more = 0, ","
     while more:
         found = _ATOM.match(text, at)
         if not found:
-            raise ValueError(f"no atom at byte {at} of {text[:80]!r}")
-        atoms.append((found[1], *map(_argument_of, _ARGUMENTS.findall(found[2] or ""))))
+            raise _fault_of(text)
+        try:
+            atoms.append((found[1], *map(_argument_of, _ARGUMENTS.findall(found[2] or ""))))
+        except json.JSONDecodeError:
+            raise _fault_of(text) from None
         at, more = found.end(), found[3]
     return tuple(atoms)
+
+
+def _fault_of(line: str) -> ValueError:
+    """What is wrong with a line that has no atoms."""
+    try:
+        facts_of(line)
+    except ValueError as fault:
+        return fault
+    return ValueError("these are no facts")
+
+
+def pattern_of(line: str, at: int) -> tuple[str, tuple[str | int | None, ...]]:
+    """What a line asks for from a place on: a symbol, and arguments, where None stands for any, or no arguments.
+    ValueError where it asks for nothing."""
+    symbol, arguments = pattern_in(line, at)
+    return symbol, tuple(None if argument == ANY else _argument_of(argument) for argument in arguments)
 
 
 def named_text(atoms: Iterable[Atom]) -> str:

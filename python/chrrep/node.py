@@ -7,13 +7,15 @@ import subprocess
 import sys
 import threading
 import weakref
-from collections.abc import Iterable, Iterator, Sequence
+from collections.abc import Callable, Iterable, Iterator, Sequence
 from contextlib import contextmanager, suppress
 from enum import Enum
+from functools import cached_property, partial
 from pathlib import Path
 from types import TracebackType
 from typing import NoReturn, Self, TypeAlias
 
+from .columns import Columns
 from .process import Late, Process, end_of
 from .refusals import (
     BadLine,
@@ -22,6 +24,7 @@ from .refusals import (
     Refused,
     RefusedProgram,
     Shape,
+    TooManyTypes,
     UnknownSymbol,
     WrongProcess,
     raise_refusal,
@@ -47,7 +50,7 @@ from .texts import (
     text_pieces,
     verdict_of,
 )
-from .words import shape_fault, symbol_fault, symbols_of
+from .words import Wanted, check_pattern, file_words, shape_fault, symbol_fault
 
 _REPLICA = 1
 _NO_REPLICA = 0
@@ -98,32 +101,38 @@ def check(
     program: ProgramText,
     chrrep: str | os.PathLike[str] | None = None,
     *,
-    wide: bool = False,
+    wide: bool | None = None,
     timeout: float | None = None,
 ) -> Verdict:
-    """The verdict on a program text; with `wide` by sorted cases alone, which decide more programs.
+    """The verdict on a program text: by joint cases, and where these are too many by the columns that rules compare, by
+    which more programs are decided. With `wide=True` it is by these at once, with `wide=False` by joint cases alone.
 
     Raises `TextFault`, `NotLowered`, `Overlap` or `TooManyTypes`, each with its case, where the program is refused,
-    and `NodeDied` where no verdict came, within `timeout` seconds if they are given.
+    and `NodeDied` where no verdict came, each within `timeout` seconds if they are given.
     """
     text = text_bytes(program)
-    ended = _run([program_path(chrrep), "check", *_options(wide)], text, timeout)
-    answer = ended.stdout.decode()
-    if ended.returncode not in (0, 1) or not answer.endswith("\n"):
-        raise NodeDied("chrrep check gave no verdict", ended.returncode)
-    return _judged(answer.removesuffix("\n"), text, chrrep, wide)
+
+    def judge(is_wide: bool) -> Verdict:
+        ended = _run([program_path(chrrep), "check", *_options(is_wide)], text, timeout)
+        answer = ended.stdout.decode()
+        if ended.returncode not in (0, 1) or not answer.endswith("\n"):
+            raise NodeDied("chrrep check gave no verdict", ended.returncode)
+        return _judged(answer.removesuffix("\n"), text, chrrep, is_wide)
+
+    return _decided(judge, wide)
 
 
 def explain(
     program: ProgramText,
     chrrep: str | os.PathLike[str] | None = None,
     *,
-    wide: bool = False,
+    wide: bool | None = None,
     timeout: float | None = None,
 ) -> str:
-    """Why a program text is refused and where, or why it is accepted, in sentences: what `chrrep explain` writes; with
-    `wide` by sorted cases. `NodeDied` where it takes longer than `timeout` seconds."""
-    words = [program_path(chrrep), "explain", *_options(wide)]
+    """Why a program text is refused and where, or why it is accepted, in sentences: what `chrrep explain` writes, which
+    judges as `check` does; with `wide=True` by the columns that rules compare at once. `NodeDied` where it takes longer
+    than `timeout` seconds."""
+    words = [program_path(chrrep), "explain", *_options(wide is True)]
     return _run(words, text_bytes(program), timeout).stdout.decode()
 
 
@@ -135,12 +144,21 @@ def _run(words: list[str], text: bytes, timeout: float | None) -> subprocess.Com
         raise NodeDied(f"chrrep {words[1]} gave no answer within {timeout} seconds") from late
 
 
+def _decided(judge: Callable[[bool], Verdict], wide: bool | None) -> Verdict:
+    """The verdict by sorted cases or not, as `judge` is told; where nobody says which, by those that decide."""
+    if wide is None:
+        with suppress(TooManyTypes):
+            return judge(False)
+    return judge(wide is not False)
+
+
 def _judged(answer: str, text: bytes, chrrep: str | os.PathLike[str] | None, wide: bool) -> Verdict:
     """What a line of verdict says of an accepted program; raises what it says of another."""
     try:
-        return verdict_of(answer) or raise_verdict(answer)
+        return verdict_of(answer, wide) or raise_verdict(answer, wide)
     except RefusedProgram as refusal:
         refusal.explained_by(lambda: explain(text, chrrep, wide=wide))
+        refusal.say(file_words(text))
         raise
 
 
@@ -153,8 +171,8 @@ class Node:
 
     `program` is a program text, or a file of one, as a `Path` or open, of which what follows a line `---` is no part.
     `origin`, 0 to 4,294,967,295, is the node's own: ids are made of it, and no two nodes that exchange operations may
-    share it. `chrrep` names the program, as `program_path` says. With `wide` the program
-    is judged as `check` does with it; nodes of either kind exchange operations.
+    share it. `chrrep` names the program, as `program_path` says. The program is judged as `check` judges it, also with
+    `wide`; nodes of either kind exchange operations.
 
     Raises, as `check` does, what refuses the program. Each call raises `NodeDied` where the process has ended, and a
     `Refused` where the line is refused, which changes nothing. A call that has no answer after `timeout` seconds ends
@@ -173,7 +191,7 @@ class Node:
         origin: int,
         *,
         chrrep: str | os.PathLike[str] | None = None,
-        wide: bool = False,
+        wide: bool | None = None,
         timeout: Timeout = UNASKED,
     ) -> None:
         self.origin = origin
@@ -184,25 +202,34 @@ class Node:
         self._is_forked = False
         self._sure = 0
         self._store = StoreReader()
-        self._text = text = text_bytes(program)
-        end = b"---\n" if text.endswith(b"\n") or not text else b"\n---\n"
-        words = [program_path(chrrep), "serve", *_options(wide)]
-        self._process = Process(words)
+        self._text = text_bytes(program)
+        self.verdict = _decided(partial(self._begin, chrrep), wide)
+        self._timeout = limit
+
+    def _begin(self, chrrep: str | os.PathLike[str] | None, wide: bool) -> Verdict:
+        """Begins the process, and gives its verdict on the program; ends it where that is refused."""
+        end = b"---\n" if self._text.endswith(b"\n") or not self._text else b"\n---\n"
+        self._ended = None
+        self._process = Process([program_path(chrrep), "serve", *_options(wide)])
         # a node that is dropped ends its process too
         self._dropped = weakref.finalize(self, self._process.close)
         _NODES.add(self)
-        _LOG.debug("process %d of origin %d begins", self.pid, origin)
+        _LOG.debug("process %d of origin %d begins", self.pid, self.origin)
         try:
-            self.verdict = _judged(self._exchange(text + end), text, chrrep, wide)
+            return _judged(self._exchange(self._text + end), self._text, chrrep, wide)
         except BaseException as fault:
             self._end(NodeDied("the node never came up"), by_force=not isinstance(fault, Refused))
             raise
-        self._timeout = limit
 
     @property
     def pid(self) -> int:
         """The id of the node's process."""
         return self._process.pid
+
+    @cached_property
+    def columns(self) -> Columns:
+        """What the program's text tells of symbols and their columns."""
+        return Columns(self._text)
 
     @property
     def next_id(self) -> Id:
@@ -245,9 +272,12 @@ class Node:
 
     def show(self, symbol: str | None = None, *pattern: int | None) -> tuple[Atom, ...]:
         """The store at rest, in the order in which it is printed. With a symbol only its atoms, and with a pattern of
-        arguments only those that have them, None being any: `show("path", 1, None, None)`."""
-        text = self.show_text()
-        return self._store.atoms_of(text) if symbol is None else found_in(text, symbol, *pattern)
+        arguments only those that have them, None being any: `show("path", 1, None, None)`. Raises what `tell` raises
+        of such an atom (`Shape`, `UnknownSymbol`)."""
+        if symbol is None:
+            return self._store.atoms_of(self.show_text())
+        check_pattern((symbol, *pattern), self.columns.symbols, Wanted(self.columns.argument))
+        return found_in(self.show_text(), symbol, *pattern)
 
     def count(self, symbol: str, *pattern: int | None) -> int:
         """How many atoms `show` gives."""
@@ -320,11 +350,12 @@ class Node:
         try:
             yield
         except (BadLine, Shape) as refusal:
-            refusal.add(next(filter(None, (shape_fault(one.atoms) for one in delta)), None))
+            wanted = Wanted(self.columns.argument)
+            refusal.say(next(filter(None, (shape_fault(one.atoms, wanted) for one in delta)), None))
             raise
         except UnknownSymbol as refusal:
-            symbols = symbols_of(self._text)
-            refusal.add(next(filter(None, (symbol_fault(one.atoms, symbols) for one in delta)), None))
+            symbols = self.columns.symbols
+            refusal.say(next(filter(None, (symbol_fault(one.atoms, symbols) for one in delta)), None))
             raise
 
     def _ask(self, *words: object, following: int = 0) -> str:

@@ -56,12 +56,13 @@ class Refused(ChrrepError):
     def __init__(self, answer: str, number: int | None = None) -> None:
         if number is not None:
             self.number = number
-        super().__init__(f"{type(self).__name__}: {answer}")
+        self._answered = f"{type(self).__name__}: {answer}"
+        super().__init__(self._answered)
 
-    def add(self, words: str | None) -> None:
-        """Adds to what the exception says."""
+    def say(self, words: str | None) -> None:
+        """Has the exception say what is wrong, in the place of what it said of that before."""
         if words:
-            self.args = (f"{self}: {words}",)
+            self.args = (f"{self._answered}: {words}",)
 
 
 class RefusedProgram(Refused):
@@ -88,7 +89,7 @@ class TextFault(RefusedProgram):
     def explained_by(self, explains: Callable[[], str]) -> None:
         super().explained_by(explains)
         # it is told at once where the text is no program
-        self.add(explains().partition("\n")[0])
+        self.say(explains().partition("\n")[0])
 
 
 class BadByte(TextFault):
@@ -165,7 +166,7 @@ class NotLowered(RefusedProgram):
     def __init__(self, answer: str, rule: int, before: Weight, after: Weight) -> None:
         self.rule, self.before, self.after = rule, before, after
         super().__init__(answer)
-        self.add(f"rule {rule} does not lower the weight")
+        self.say(f"rule {rule} does not lower the weight")
 
 
 class Overlap(RefusedProgram):
@@ -186,19 +187,20 @@ class Overlap(RefusedProgram):
         self.rules, self.matching = rules, matching
         self.store, self.left, self.right = store, left, right
         super().__init__(answer)
-        self.add("one store comes to two ends")
+        self.say("one store comes to two ends")
 
 
 class TooManyTypes(RefusedProgram):
-    """The two `rules` overlap as `matching` says, with `classes` free values: in too many orders of them to decide.
-    Asked for with `wide`, most programs are decided."""
+    """The two `rules` overlap as `matching` says, with `classes` free values: in too many cases to decide."""
 
     number = 22
 
-    def __init__(self, answer: str, rules: tuple[int, int], matching: tuple[int, ...], classes: int) -> None:
+    def __init__(
+        self, answer: str, rules: tuple[int, int], matching: tuple[int, ...], classes: int, is_wide: bool = False
+    ) -> None:
         self.rules, self.matching, self.classes = rules, matching, classes
         super().__init__(answer)
-        self.add("an overlap has too many cases to decide")
+        self.say(_TOO_MANY_SORTED if is_wide else _TOO_MANY_JOINT)
 
 
 class BadLine(Refused):
@@ -219,6 +221,10 @@ class UnknownSymbol(Refused):
     number = 32
 
 
+class UnknownColumn(UnknownSymbol):
+    """A column that no symbol has by this name: `% chr_columns ..` in the program names them."""
+
+
 class Clash(Refused):
     """An id that stands for other atoms already."""
 
@@ -237,6 +243,14 @@ class NoReplica(Refused):
     number = 35
 
 
+_TOO_MANY_JOINT = (
+    "an overlap has too many joint cases to decide: judge by the columns that rules compare, with wide=True, or leave "
+    "it out"
+)
+_TOO_MANY_SORTED = (
+    "an overlap has too many cases to decide, also by the columns that rules compare: compare fewer columns, or compare"
+    " them in fewer heads; `chrrep explain` tells which"
+)
 _TEXT_FAULTS: dict[int, type[TextFault]] = {kind.number: kind for kind in TextFault.__subclasses__()}
 _OF_LINES: dict[int, type[Refused]] = {
     kind.number: kind for kind in (BadLine, Shape, UnknownSymbol, Clash, Full, NoReplica)
@@ -247,15 +261,15 @@ _OVERLAP = re.compile(r"refused 21: rules (\d+) (\d+); matching \(([\d,]*)\); st
 _TOO_MANY = re.compile(r"refused 22: rules (\d+) (\d+); matching \(([\d,]*)\); classes (\d+)")
 
 
-def raise_verdict(answer: str) -> NoReturn:
-    """Raises what a verdict says that accepts nothing; ValueError where it is none."""
+def raise_verdict(answer: str, is_wide: bool = False) -> NoReturn:
+    """Raises what a verdict, by sorted cases or not, says that accepts nothing; ValueError where it is none."""
     if found := _NOT_LOWERED.fullmatch(answer):
         raise NotLowered(answer, int(found[1]), numbers_of(found[2]), numbers_of(found[3]))
     if found := _OVERLAP.fullmatch(answer):
         rules = (int(found[1]), int(found[2]))
         raise Overlap(answer, rules, numbers_of(found[3]), atoms_of(found[4]), atoms_of(found[5]), atoms_of(found[6]))
     if found := _TOO_MANY.fullmatch(answer):
-        raise TooManyTypes(answer, (int(found[1]), int(found[2])), numbers_of(found[3]), int(found[4]))
+        raise TooManyTypes(answer, (int(found[1]), int(found[2])), numbers_of(found[3]), int(found[4]), is_wide)
     found = _TEXT_FAULT.fullmatch(answer)
     if found and int(found[1]) in _TEXT_FAULTS:
         raise _TEXT_FAULTS[int(found[1])](answer, int(found[2]) if found[2] else None)

@@ -75,10 +75,12 @@ class Difference(NamedTuple):
 
 
 class Verdict(NamedTuple):
-    """An accepted program: the number of its rules, and of the cases that were tried."""
+    """An accepted program: the number of its rules, of the cases that were tried, and whether these were the sorted
+    ones, of `--wide`."""
 
     rules: int
     cases: int
+    is_wide: bool = False
 
 
 class Written(Protocol):
@@ -103,10 +105,10 @@ _ATOM = re.compile(r"\s*([a-z][A-Za-z0-9_]*)\s*(?:\(\s*(-?\d+(?:\s*,\s*-?\d+)*)\
 _DIVIDER = re.compile(rb"^---(?=\r?$)", re.MULTILINE)
 
 
-def verdict_of(answer: str) -> Verdict | None:
-    """What a line of verdict says of an accepted program; None where it accepts nothing."""
+def verdict_of(answer: str, is_wide: bool = False) -> Verdict | None:
+    """What a line of verdict, by sorted cases or not, says of an accepted program; None where it accepts nothing."""
     found = _ACCEPTED.fullmatch(answer)
-    return Verdict(int(found[1]), int(found[2])) if found else None
+    return Verdict(int(found[1]), int(found[2]), is_wide) if found else None
 
 
 def numbers_of(text: str) -> tuple[int, ...]:

@@ -4,6 +4,7 @@ import json
 import os
 import queue
 import random
+import re
 import signal
 import tempfile
 import threading
@@ -17,7 +18,7 @@ from typing import Any
 from unittest.mock import patch
 
 import chrrep
-from chrrep import Change, Id, Operation
+from chrrep import Change, Id, Operation, Verdict
 from chrrep.link import (
     Batch,
     Count,
@@ -44,10 +45,10 @@ from chrrep.link import (
     connect,
 )
 from chrrep.link.log import SEAL_SECONDS
-from chrrep.names import NameClash, named_atoms_of
+from chrrep.names import NameClash, named_atoms_of, number_of
 from engines import Engine, Server
 from kills import KILLS, SECONDS, Command, Kills, chance_of_stop
-from programs import COINS, COUNTED, MARKED, PATHS, PLAIN, store_of
+from programs import COINS, COUNTED, MARKED, PATHS, PLAIN, REGISTER, store_of
 
 STOPPED = "FATAL:  terminating connection due to administrator command\n"
 """What libpq itself writes on standard error where it hears between two requests that PostgreSQL is stopped."""
@@ -628,6 +629,36 @@ class Naming(Links):
             one.tell(("paths", "oslo", "rome", 1))
         self.assertEqual(len(one.link.names()), 3)
 
+    def test_refusals_have_names_and_not_their_numbers(self) -> None:
+        member = self.member(f"% chr_columns path(from, to, length)\n{PATHS}")
+        rows: list[tuple[type[chrrep.Refused], list[Any], str]] = [
+            (chrrep.Shape, ["path", "oslo", 2.5, "x"], "argument 2 (to) of ('path', 'oslo', 2.5, 'x') is a float, and "
+             "neither a whole number nor a name"),
+            (chrrep.Shape, ["path", "oslo", "rome", 2**63],
+             "argument 3 (length) of ('path', 'oslo', 'rome', 9223372036854775808) does not fit 64 bits"),
+            (chrrep.UnknownSymbol, ["path", "oslo", "rome"], "'path' is declared with 3 arguments, and not with 2"),
+        ]  # fmt: skip
+        for kind, atom, said in rows:
+            calls: list[Callable[[], object]] = [
+                partial(member.tell, ("path", "oslo", 1, 2), tuple(atom)),
+                partial(member.show, *atom), partial(member.count, *atom),
+            ]  # fmt: skip
+            for call in calls:
+                with self.assertRaises(kind) as raised:
+                    call()
+                self.assertRegex(str(raised.exception), f"^{kind.__name__}: (refused 3[12]: )?{re.escape(said)}$")
+        with self.assertRaisesRegex(chrrep.UnknownSymbol, "is 'path' meant"):
+            member.show("paths", "oslo", None, None)
+        self.assertEqual((member.show(), member.link.names()), ((), []))
+
+    def test_stores_that_diverge_are_told_with_names(self) -> None:
+        member = self.member(PLAIN)
+        member.tell(("a", "oslo"))
+        state = State(1, Program(PLAIN.encode()), 1, {member.origin: 1}, f"a({number_of('oslo')}), a(7)")
+        self.assertTrue(member.link.keep(state))
+        with self.assertRaisesRegex(Diverged, r": here a\(oslo\), in the log a\(oslo\), a\(7\)$"):
+            member.follow()
+
     def test_two_names_of_one_number(self) -> None:
         one, other = self.member(PLAIN), self.member()
         with patch("chrrep.names.number_of", len):
@@ -649,7 +680,18 @@ class Naming(Links):
         for line, answer in (
             ('path(berlin,"São Paulo",1050), path( rome , 2 ,3)', "told 1:1"),
             ('path(berlin, "S\\u00e3o Paulo", 1040)', "told 1:2"),
-            ("path(Berlin,1,2)", "refused: no atom at byte 0 of 'path(Berlin,1,2)'"),
+            (
+                "path(oslo, Berlin,2)",
+                'refused: character 12, argument 2 of path: Berlin is no name without quotes: put it in double quotes, '
+                '"Berlin"',
+            ),
+            ("? path(rome,_,_)", "path(rome,2,3)"),
+            ("? path", 'path(berlin,"São Paulo",1040), path(rome,2,3)'),
+            ('? path(_ , "São Paulo", _)', 'path(berlin,"São Paulo",1040)'),
+            ("?path(oslo,_,_)", "true"),
+            ("? path(oslo,_)", "refused: UnknownSymbol: 'path' is declared with 3 arguments, and not with 2"),
+            ("? paths", "refused: UnknownSymbol: no symbol 'paths' is declared: is 'path' meant?"),
+            ("? path, path", "refused: character 7: one symbol is asked for, or one pattern"),
             (
                 'path("\\ud800",1,2)',
                 "refused: 'utf-8' codec can't encode character '\\ud800' in position 0: surrogates not allowed",
@@ -698,8 +740,30 @@ class Programs(Links):
     def test_the_log_knows_how_its_program_is_judged(self) -> None:
         first = self.stack.enter_context(Member(self.link(), PATHS, wide=True))
         self.assertEqual((self.member().verdict, self.member(PATHS).verdict), (first.verdict, first.verdict))
-        with self.assertRaisesRegex(OtherProgram, "--wide"):
+        with self.assertRaisesRegex(OtherProgram, "judged in two ways: leave --wide out"):
             Member(self.link(), PATHS, wide=False)
+
+    def test_a_log_is_judged_by_the_cases_that_decide(self) -> None:
+        """Its members judge as the first one did."""
+        first = self.member(REGISTER)
+        self.assertEqual((first.verdict, first.program), (Verdict(3, 1230, True), Program(REGISTER.encode(), True)))
+        first.tell(("reg", "title", 4, 900, 1), ("reg", "title", 5, 900, 2))
+        for member in (self.member(), self.member(REGISTER), Member(self.link(), REGISTER, wide=True)):
+            self.stack.callback(member.close)
+            self.assertEqual((member.verdict, member.show()), (first.verdict, (("reg", "title", 5, 900, 2),)))
+        with self.assertRaises(OtherProgram):
+            Member(self.link(), REGISTER, wide=False)
+        first.upgrade(f"{REGISTER}% more\n")
+        self.assertEqual((first.program.is_wide, first.show()), (True, (("reg", "title", 5, 900, 2),)))
+        with self.assertRaises(chrrep.TooManyTypes):
+            first.upgrade(f"{REGISTER}% the last\n", wide=False)
+        first.upgrade(REGISTER + PATHS)
+        self.assertEqual((first.link.state().program, first.program.is_wide), (first.program, True))
+        self.program.write_text(REGISTER + PATHS)
+        command = self.command()
+        self.assertRegex(command.ask("reg(title,6,901,3)") or "", r"^told \d+:1$")
+        self.assertEqual(command.ask("?"), "reg(title,6,901,3)")
+        self.assertEqual(command.end(), (0, ""))
 
     def test_a_log_of_a_later_format(self) -> None:
         member = self.member(PLAIN)
@@ -1065,7 +1129,11 @@ class Commands(Links):
                 "path(1,2)",
                 "refused: UnknownSymbol: refused 32: 'path' is declared with 3 arguments, and not with 2",
             ),
-            ("Path", "refused: no atom at byte 0 of 'Path'"),
+            (
+                "Path",
+                "refused: character 1: Path begins no fact: that is a word with a small first letter, as `a(1,b)` or "
+                "`c`",
+            ),
             (
                 ", ".join(["path(1,1,1)"] * 65),
                 "refused: Shape: refused 31: an operation has 1 to 64 atoms, and this one has 65",
@@ -1087,7 +1155,7 @@ class Commands(Links):
             "told 1:2",
             "refused: UnknownSymbol",
             "told 1:3",
-            "refused: no atom",
+            "refused: character 3: a comma is missing before y",
             "told 1:4",
             "path(1,2,4)",
         ):
@@ -1185,7 +1253,7 @@ class Outages(Links):
         self.assertEqual(member.show(), (("a", 1), ("a", 3)))
 
     def test_a_command_whose_engine_is_not_there(self) -> None:
-        """At first, or later on: one sentence, and what was acknowledged stays."""
+        """At first, or later on: a sentence at once and one at the end, and what was acknowledged stays."""
         command = self.command("--patience", "3")
         self.assertEqual(command.ask("path(1,2,3)"), "told 1:1")
         self.engine.stop()
@@ -1195,6 +1263,7 @@ class Outages(Links):
             self.engine.start()
         for status, told in ends:
             said = told.removeprefix(STOPPED)
-            self.assertEqual((status, said.count("\n")), (3, 1), told)
-            self.assertRegex(said, "^chrrep.link: LinkLost: the engine doesn't answer: ")
+            self.assertEqual((status, said.count("\n")), (3, 2), told)
+            away = "chrrep.link: the engine doesn't answer, and is asked again for [0-9]+ seconds: .*\n"
+            self.assertRegex(said, f"^{away}chrrep.link: LinkLost: the engine doesn't answer: ")
         self.assertEqual(self.member().show(), (("path", 1, 2, 3),))

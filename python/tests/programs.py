@@ -21,6 +21,18 @@ COUNTED = (
 
 PLAIN = ":- chr_constraint a/1.\n"
 
+REGISTER = """:- chr_constraint reg/4.
+later @ reg(K,V,T,N) \\ reg(K,W,U,M) <=> T > U | true.
+node  @ reg(K,V,T,N) \\ reg(K,W,T,M) <=> N > M | true.
+same  @ reg(K,V,T,N) \\ reg(K,W,T,N) <=> V >= W | true.
+"""
+"""The last writer of each key: key, value, time, node. There are too many joint cases, and few sorted ones."""
+
+THRONGS = """:- chr_constraint best/6.
+best(K,A,B,C,D,E) \\ best(K,F,G,H,I,J) <=> A < F, B < G, C < H, D < I, E =\\= J | true.
+"""
+"""There are too many sorted cases too."""
+
 
 def answers(program: str, lines: Iterable[object], *options: str) -> list[str]:
     """What a run with these options writes for the program and these commands."""

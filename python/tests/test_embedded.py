@@ -1,12 +1,16 @@
 """Members of a log in a file, and what becomes of files."""
 
+import gc
 import os
+import pty
+import re
 import shutil
 import sqlite3
 import subprocess
 import sys
 import threading
 import time
+import tomllib
 import unittest
 from collections.abc import Callable
 from contextlib import closing
@@ -14,6 +18,7 @@ from pathlib import Path
 from tempfile import TemporaryDirectory
 from unittest.mock import patch
 
+import chrrep
 import links
 import promises
 from chrrep import Id
@@ -24,17 +29,20 @@ from chrrep.link import (
     LinkLost,
     LogUnusable,
     Member,
+    NoDriver,
+    NoProgram,
     OriginShared,
+    OtherProgram,
     Program,
     State,
     connect,
     join,
 )
-from chrrep.link.__main__ import _beside
+from chrrep.link.__main__ import _folder_beside
 from chrrep.link.sqlite import FORMAT
 from engines import Embedded, Engine
 from kills import PACKAGE, Command
-from programs import COINS, MARKED, PATHS, PLAIN
+from programs import COINS, MARKED, PATHS, PLAIN, REGISTER
 
 
 NOBODY = 65_534
@@ -82,6 +90,102 @@ class Files(unittest.TestCase):
             os.chdir(before)
         with join(f"sqlite:///{self.room}/here.sqlite") as member:
             self.assertEqual(member.show(), (("a", 1),))
+
+    def test_what_is_joined_serves_with_and_without_a_block(self) -> None:
+        member = join(self.url, PLAIN, origin=1)
+        self.assertEqual(member.tell(("a", 1)), Id(1, 1))
+        member.close()
+        member.close()
+        self.assertFalse(Path(f"/proc/{member.pid}").exists())
+        with self.assertRaises(LinkLost):
+            member.link.newest()
+        # its origin was given back
+        with join(self.url, origin=1) as again:
+            self.assertEqual(again.tell(("a", 2)), Id(1, 2))
+        self.assertFalse(Path(f"/proc/{again.pid}").exists())
+        dropped = join(self.url, origin=1)
+        pid = dropped.pid
+        del dropped
+        gc.collect()
+        self.assertFalse(Path(f"/proc/{pid}").exists())
+        with join(self.url, origin=1) as again:
+            self.assertEqual(again.show(), (("a", 1), ("a", 2)))
+
+    def test_what_leaves_no_file(self) -> None:
+        """A program that is refused, isn't there or isn't brought, before the log has one."""
+        rows: list[tuple[type[Exception], Callable[[], object]]] = [
+            (chrrep.Syntax, lambda: join(self.url, "a.")),
+            (chrrep.TooManyTypes, lambda: join(self.url, REGISTER, wide=False)),
+            (FileNotFoundError, lambda: join(self.url, self.room / "missing.chr")),
+            (NoProgram, lambda: join(self.url)),
+            (chrrep.NodeDied, lambda: join(self.url, PLAIN, timeout=-1.0)),
+            (ValueError, lambda: join(self.url, PLAIN, log="")),
+        ]
+        for kind, call in rows:
+            with self.subTest(kind), self.assertRaises(kind):
+                call()
+            self.assertEqual(list(self.room.iterdir()), [])
+        with patch("chrrep.link.replica.Node", wraps=chrrep.Node) as made, join(self.url, PLAIN) as member:
+            self.assertEqual((made.call_count, member.tell(("a", 1)).number), (1, 1))
+
+    def test_another_makes_the_file_meanwhile(self) -> None:
+        """Who comes first gives the log its program; a node that was made before is used, or ended."""
+        with join(self.url, PLAIN) as first, patch("chrrep.link.member._makes_file", return_value=True):
+            with patch("chrrep.link.replica.Node", wraps=chrrep.Node) as made, join(self.url, PLAIN) as member:
+                self.assertEqual((made.call_count, member.tell(("a", 1)).number), (1, 1))
+            with self.assertRaises(OtherProgram), self.assertLogs("chrrep.node", "DEBUG") as logged:
+                join(self.url, PATHS)
+            self.assertRegex(logged.output[-1], "ended with status 0")
+            self.assertEqual(first.show(), (("a", 1),))
+
+    def test_a_string_that_is_the_name_of_a_file(self) -> None:
+        said = r"this text looks like the name of a file, which is given as Path\('{}'\)$"
+        names = ["cart.chr", "./my cart.chr", "/home/a/cart.txt", "cart.v2.chr", "caf\u00e9.chr"]
+        for name in names:
+            calls: list[Callable[[], object]] = [
+                lambda: chrrep.check(name), lambda: chrrep.Node(name, 1), lambda: join(self.url, name),
+            ]  # fmt: skip
+            for call in calls:
+                with self.subTest(name), self.assertRaisesRegex(chrrep.RefusedProgram, said.format(re.escape(name))):
+                    call()
+        with join(self.url, PLAIN):
+            with self.assertRaisesRegex(OtherProgram, f"^the log has another program: {said.format('cart.chr')}"):
+                join(self.url, "cart.chr")
+        for text in ("a.", "a", "coin <=> note.c", ":- chr_constraint a/0.b", "a.\nb.chr", "% a.chr\na", ""):
+            try:
+                chrrep.check(text)
+            except chrrep.RefusedProgram as refusal:
+                self.assertNotIn("Path", str(refusal), text)
+
+    def test_a_client_that_is_not_installed(self) -> None:
+        rows = [("redis://localhost", "redis", "redis_streams", "redis")]
+        rows += [("postgresql://localhost/x", "psycopg2", "postgresql", "postgresql")]
+        for url, module, link, extra in rows:
+            with patch.dict(sys.modules, {module: None}):
+                sys.modules.pop(f"chrrep.link.{link}", None)
+                said = f"needs Python's {module}, .* pip install {module}, or .* './python\\[{extra}\\]'$"
+                with self.assertRaisesRegex(NoDriver, said) as raised:
+                    join(url, PLAIN)
+                self.assertIsInstance(raised.exception, ImportError)
+            found = tomllib.loads((PACKAGE / "pyproject.toml").read_text())["project"]["optional-dependencies"]
+            self.assertTrue(found[extra][0].startswith(module))
+
+    def test_an_engine_that_is_away_is_told_of_at_once(self) -> None:
+        """Once, and again when it was there in between."""
+        locks = sqlite3.connect(self.path, isolation_level=None, check_same_thread=False)
+        with closing(locks), join(self.url, PLAIN, patience=60.0) as member:
+            for value in range(2):
+                locks.execute("BEGIN IMMEDIATE")
+                begin = time.time()
+                with self.assertLogs("chrrep.link", "WARNING") as logged:
+                    release = threading.Timer(4.0, locks.rollback)
+                    release.start()
+                    member.tell(("a", value))
+                release.join()
+                self.assertEqual(len(logged.records), 1)
+                said = "the engine doesn't answer, and is asked again for [0-9]+ seconds: .*locked"
+                self.assertRegex(logged.output[0], said)
+                self.assertLess(logged.records[0].created - begin, 3.0)
 
     def test_files_that_cannot_be_used(self) -> None:
         damaged, folder = self.room / "damaged", self.room / "folder"
@@ -310,6 +414,54 @@ class DefaultLog(unittest.TestCase):
         self.assertIn("NoProgram", self.run_command("--engine", f"sqlite:///{self.program}.log", status=3)[1])
         self.assertIn("ValueError", self.run_command("--engine", "mysql://x", self.program, status=3)[1])
 
+    def test_what_may_be_typed_is_said_at_a_terminal(self) -> None:
+        self.program.write_text(f"% chr_columns path(from, to, length)\n{PATHS}:- chr_constraint coin/0, fare/2.\n")
+        env = {**os.environ, "PYTHONPATH": str(PACKAGE), "PYTHONDONTWRITEBYTECODE": "1"}
+        ours, terminal = pty.openpty()
+        words = [sys.executable, "-m", "chrrep.link", str(self.program)]
+        node = subprocess.Popen(words, stdin=terminal, stdout=subprocess.PIPE, stderr=subprocess.PIPE, env=env)
+        with node, open(ours, "wb", buffering=0) as types:
+            os.close(terminal)
+            assert node.stdout and node.stderr
+            said = [node.stderr.readline().decode() for _ in range(2)]
+            self.assertRegex(said[0], "^chrrep.link: the log is ")
+            wanted = "type path(1,2,3) to tell a fact, ? to see all, help for more"
+            self.assertEqual(said[1], f"chrrep.link: {wanted}\n")
+            types.write(b"path(1,2,3)\nhelp\npath(1,X,2)\n")
+            answers = [node.stdout.readline().decode() for _ in range(8)]
+            types.write(b"\x04")
+            self.assertEqual((node.wait(60), node.stderr.read()), (0, b""))
+        quoted = 'put it in double quotes, "X"'
+        self.assertEqual("".join(answers), f"""\
+told 1:1
+path(1,2,3)    tells a fact; several stand between commas
+"São Paulo"    within the brackets is a name; so is a word with a small first letter. Else: whole numbers
+?              shows all facts
+? path         shows those of one symbol
+? path(1,_,_)  shows those with these arguments; _ is any
+the facts of this program: path(from,to,length), coin, fare/2
+refused: character 8, argument 2 (to) of path: X is no name without quotes: {quoted}
+""")  # fmt: skip
+
+    def test_what_leaves_no_folder(self) -> None:
+        room = self.program.parent
+        self.program.write_text("a.")
+        self.run_command(self.program, status=1)
+        self.run_command(room / "missing.chr", status=3)
+        self.run_command("--upgrade", self.program, status=3)
+        self.program.write_text(REGISTER)
+        self.assertIn("NoProgram", self.run_command("--upgrade", self.program, status=3)[1])
+        self.assertEqual([path.name for path in room.iterdir()], ["routes.chr"])
+        self.run_command(self.program, said="?")
+        self.assertTrue((room / ".chrrep" / "routes.sqlite").exists())
+
+    def test_help_is_a_fact_where_the_program_has_it(self) -> None:
+        self.program.write_text(":- chr_constraint help/0.\n")
+        self.assertEqual(self.run_command(self.program, said="help\n?")[0], "told 1:1\nhelp\n")
+        self.program.with_name("other.chr").write_text(":- chr_constraint help/1.\n")
+        out = self.run_command(self.program.with_name("other.chr"), said="help\n")[0]
+        self.assertIn("? help(1)    shows those with these arguments", out)
+
     def is_refused(self, said: str, *words: str | Path) -> None:
         """Whether the command tells nothing, and one sentence of why."""
         out, err = self.run_command(*words, said="path(1,2,3)\n", status=3)
@@ -333,7 +485,7 @@ class DefaultLog(unittest.TestCase):
         os.seteuid(NOBODY)
         try:
             with self.assertRaisesRegex(LogUnusable, "the folder of the log can't be made: .*Permission denied"):
-                _beside(self.program)
+                _folder_beside(self.program)
             for path in (room / "new.sqlite", log):
                 with self.assertRaisesRegex(LogUnusable, "(unable to open|readonly) database"):
                     connect(f"sqlite:///{path}", patience=0.2)

@@ -14,6 +14,7 @@ import threading
 import time
 import unittest
 from collections.abc import Callable
+from contextlib import suppress
 from pathlib import Path
 from typing import Any
 from unittest.mock import patch
@@ -21,10 +22,11 @@ from unittest.mock import patch
 import chrrep
 from chrrep import ANSWER_SECONDS, Id, Node, NodeDied, Operation, check, explain, pieces, store_text
 from chrrep.asynchronous import AsyncNode, join
-from chrrep.node import UNASKED
+from chrrep.node import UNASKED, program_path
+from chrrep.process import Process
 from chrrep.texts import LINE_LIMIT, OperationText
 from forks import Fork, said_in_fork
-from programs import COINS, PATHS, PLAIN, store_of
+from programs import COINS, PATHS, PLAIN, REGISTER, THRONGS, store_of
 
 SECONDS = 20.0
 """Far longer than any call here takes."""
@@ -175,7 +177,8 @@ class Answers(unittest.TestCase):
             node.tell(("path", 1, 2, 7), ("path", 1, 3, 4), ("path", 2, 3, -1))
             self.assertEqual(node.show("path", 1, None, None), (("path", 1, 2, 7), ("path", 1, 3, 4)))
             self.assertEqual(node.show("path", None, 3, -1), (("path", 2, 3, -1),))
-            self.assertEqual((node.count("path"), node.count("path", None, 3, None), node.count("x")), (3, 2, 0))
+            self.assertEqual((node.count("path"), node.count("path", None, 3, None)), (3, 2))
+            self.assertEqual((node.show("path", 9, None, None), node.count("path", -(2**63), None, None)), ((), 0))
 
     def test_a_node_says_what_it_is(self) -> None:
         with Node(COINS, 7) as node:
@@ -266,6 +269,37 @@ class Refusals(unittest.TestCase):
                     self.assertRegex(str(raised.exception), rf"^\w+: refused 3[012]: {re.escape(said)}$")
             self.assertEqual(node.summary(), ())
 
+    def test_what_cannot_be_shown_is_refused(self) -> None:
+        """As a tell of it would be, and with the names of its columns."""
+        program = "% chr_columns path(from, to, length)\n:- chr_constraint path/3, coin/0.\n"
+        rows: list[tuple[type[chrrep.Refused], list[Any], str]] = [
+            (chrrep.UnknownSymbol, ["paths"], "no symbol 'paths' is declared: is 'path' meant?"),
+            (chrrep.UnknownSymbol, ["paths", 1], "no symbol 'paths' is declared: is 'path' meant?"),
+            (chrrep.UnknownSymbol, ["path", 1, 2], "'path' is declared with 3 arguments, and not with 2"),
+            (chrrep.UnknownSymbol, ["coin", None], "'coin' is declared with 0 arguments, and not with 1"),
+            (chrrep.Shape, ["path", None, 2.5, 3],
+             "argument 2 (to) of ('path', None, 2.5, 3) is a float, and not a whole number"),
+            (chrrep.Shape, ["path", True, 2, 3],
+             "argument 1 (from) of ('path', True, 2, 3) is a bool, and not a whole number"),
+            (chrrep.Shape, ["path", 1, "x", None],
+             "argument 2 (to) of ('path', 1, 'x', None) is a string, and not a whole number"),
+            (chrrep.Shape, ["path", 1, b"x", None],
+             "argument 2 (to) of ('path', 1, b'x', None) is a bytes, and not a whole number"),
+            (chrrep.Shape, ["path", 1, 2, 2**63],
+             "argument 3 (length) of ('path', 1, 2, 9223372036854775808) does not fit 64 bits"),
+            (chrrep.Shape, [7], "(7,) is no atom, which is a name and its arguments"),
+        ]  # fmt: skip
+        with Node(program, 1) as node:
+            for kind, pattern, said in rows:
+                calls: list[Callable[..., object]] = [node.show, node.count]
+                for call in calls:
+                    with self.subTest(said), self.assertRaises(kind) as raised:
+                        call(*pattern)
+                    self.assertEqual(str(raised.exception), f"{kind.__name__}: {said}")
+            with self.assertRaisesRegex(chrrep.Shape, "argument 2 \\(to\\) of .* is a float"):
+                node.tell(("path", 1, 2.5, 3))  # type: ignore[arg-type]
+            self.assertEqual(node.show("coin"), ())
+
     def test_merges_are_taken_in_whole_or_not(self) -> None:
         with Node(PLAIN, 1) as node:
             node.tell(("a", 1))
@@ -338,11 +372,7 @@ PROGRAMS: list[tuple[type[chrrep.Refused], str | bytes, dict[str, Any]]] = [
             "right": (("tail",),),
         },
     ),
-    (
-        chrrep.TooManyTypes,
-        ":- chr_constraint a/4. a(A,B,C,D) \\ a(E,F,G,H), a(I,J,K,L) <=> true.",
-        {"rules": (1, 1)},
-    ),
+    (chrrep.TooManyTypes, THRONGS, {"rules": (1, 1)}),
     # a line that ends the text where it is sent is a fault within it
     (chrrep.Syntax, PLAIN + "---\n" + ":- chr_constraint b/1.\n", {"clause": 2}),
     (chrrep.Syntax, PLAIN + '---\r\n["tell",1,[1,1],[["a",1]]]\n.', {"clause": 2}),
@@ -389,16 +419,63 @@ class Programs(unittest.TestCase):
 
     def test_programs_judged_by_sorted_cases(self) -> None:
         rule = ":- chr_constraint p/4.\np(K,A,B,C) \\ p(K,D,E,F) <=> A < D | true.\n"
-        self.assertEqual(check(PATHS, wide=True), chrrep.Verdict(1, 17))
-        self.assertEqual(check(rule, wide=True), chrrep.Verdict(1, 6))
-        for call in (check, lambda text: Node(text, 1)):
-            self.refusal(chrrep.TooManyTypes, call, rule)
-        with Node(rule, 1, wide=True) as wide, Node(rule, 2, wide=True) as other:
+        self.assertEqual(check(PATHS, wide=True), chrrep.Verdict(1, 17, True))
+        self.assertEqual(check(rule, wide=True), chrrep.Verdict(1, 6, True))
+        with Node(rule, 1, wide=True) as wide, Node(rule, 2) as other:
             wide.tell(("p", 1, 7, 0, 0))
             other.tell(("p", 1, 5, 3, 2), ("p", 2, 9, 0, 0))
             wide.merge(other.lacks(wide.summary()))
-            self.assertEqual(wide.verdict, chrrep.Verdict(1, 6))
+            self.assertEqual(wide.verdict, chrrep.Verdict(1, 6, True))
             self.assertEqual(wide.show(), (("p", 1, 5, 3, 2), ("p", 2, 9, 0, 0)))
+
+    def test_programs_are_judged_by_the_cases_that_decide(self) -> None:
+        """By sorted cases only where there are too many joint ones, or where they are asked for."""
+        calls: list[Callable[..., chrrep.Verdict]] = [check, lambda text, **more: self.verdict_of_node(text, **more)]
+        for judge in calls:
+            self.assertEqual(judge(PATHS), chrrep.Verdict(1, 541, False))
+            self.assertEqual(judge(PATHS, wide=True), chrrep.Verdict(1, 17, True))
+            self.assertEqual(judge(REGISTER), chrrep.Verdict(3, 1230, True))
+            with self.assertRaisesRegex(chrrep.TooManyTypes, "too many joint cases .* wide=True, or leave it out$"):
+                judge(REGISTER, wide=False)
+            for wide in (None, True):
+                with self.assertRaisesRegex(chrrep.TooManyTypes, "compare fewer columns, .*`chrrep explain`") as raised:
+                    judge(THRONGS, wide=wide)
+                self.assertNotIn("\n", str(raised.exception))
+                self.assertIn("best/6: by order 2, 3, 4, 5; by equality 6", raised.exception.explain())
+
+    def verdict_of_node(self, text: str, **more: Any) -> chrrep.Verdict:
+        with Node(text, 1, **more) as node:
+            node.show()
+            return node.verdict
+
+    def test_a_program_is_judged_once_more_at_most(self) -> None:
+        words: list[list[str]] = []
+
+        class Noted(Process):
+            def __init__(self, said: list[str]) -> None:
+                words.append(said[1:])
+                super().__init__(said)
+
+        joint, sorted_ = ["serve"], ["serve", "--wide"]
+        rows: list[tuple[str, bool | None, list[list[str]]]] = [
+            (PATHS, None, [joint]), (REGISTER, None, [joint, sorted_]), (THRONGS, None, [joint, sorted_]),
+            (REGISTER, True, [sorted_]), (REGISTER, False, [joint]), (COINS + "coin <=> true.", None, [joint]),
+        ]  # fmt: skip
+        for text, wide, said in rows:
+            words.clear()
+            with patch("chrrep.node.Process", Noted), suppress(chrrep.RefusedProgram), Node(text, 1, wide=wide) as node:
+                self.assertEqual(node.tell_many([]), [])
+            self.assertEqual(words, said)
+
+    def test_wide_is_told_of_in_the_same_words(self) -> None:
+        top = Path(__file__).resolve().parents[2]
+        told = [(top / "docs" / name).read_text() for name in ("GUIDE.md", "REFERENCE.md", "NODES.md")]
+        for words in ([program_path(), "check"], [sys.executable, "-B", "-m", "chrrep.link"]):
+            env = {**os.environ, "PYTHONPATH": str(top / "python")}
+            ended = subprocess.run([*words, "--help"], capture_output=True, text=True, env=env, check=False)
+            told.append(ended.stdout + ended.stderr)
+        for text in told:
+            self.assertIn("by the columns that rules compare: more programs are decided", " ".join(text.split()))
 
 
 class Ends(unittest.TestCase):

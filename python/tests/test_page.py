@@ -3,6 +3,7 @@
 import io
 import json
 import os
+import random
 import re
 import socket
 import struct
@@ -21,7 +22,7 @@ from typing import Any, NamedTuple
 from unittest.mock import patch
 
 from browser import CHROMIUM, DRIVER, Browser
-from chrrep import Atom, Id
+from chrrep import Atom, ColumnsWarning, Id
 from chrrep.link import Batch, Heard, Member, PageUnusable, connect, join
 from chrrep.link.page import Page, behind, json_text, members_of, tables_of
 from chrrep.texts import LINE_LIMIT
@@ -106,6 +107,7 @@ class Requests(Served):
         self.assertEqual(self.ask(page, "GET", "/tell").status, 404)
         self.assertEqual(member.show(), ())
         text = self.ask(page, "GET", "/").body.decode()
+        self.assertIn('<div id="tables"><section><p class="none">loading<', text)
         found = re.search('<meta name="token" content="([^"]+)">', text)
         assert found
         answer = self.tell(page, "path(berlin,paris,1050)", found[1])
@@ -195,7 +197,8 @@ class Requests(Served):
     def test_lines_that_are_refused(self) -> None:
         member, page = self.serve()
         rows: list[tuple[str | bytes, int, str]] = [
-            ("Path", 422, "refused: no atom at byte 0 of 'Path'"),
+            ("Path", 422, "refused: character 1: Path begins no fact: "),
+            ("path(1,oat milk,2)", 422, 'refused: character 8, argument 2 of path: .* in double quotes, "oat milk"$'),
             ("path(1,2)", 422, "refused: UnknownSymbol: .* declared with 3 arguments, and not with 2"),
             ("path(1,2,9223372036854775808)", 422, "refused: Shape: .* does not fit 64 bits"),
             ("paths(1,2,3)", 422, "is 'path' meant"),
@@ -242,8 +245,13 @@ class Events(Served):
         other.tell(("path", "berlin", "paris", 9))
         with self.open(page, "GET", "/events") as answer:
             events = events_of(answer)
-            verdict = {"verdict": "accepted: rules 1, cases 541", "log": "log chrrep, origin 1"}
-            self.assertEqual(next(events), ("program", verdict))
+            program = {
+                "verdict": "accepted: rules 1, cases 541",
+                "log": "log chrrep, origin 1",
+                "example": "path(1,2,3)",
+                "text": PATHS,
+            }
+            self.assertEqual(next(events), ("program", program))
             self.until(events, "told", [["2:1", "path(berlin,paris,9)"]])
             other.tell(("path", "berlin", "paris", 12))
             self.until(events, "told", [["2:2", "path(berlin,paris,12)"]])
@@ -349,13 +357,31 @@ class Tables(unittest.TestCase):
     def test_atoms_by_symbols(self) -> None:
         atoms: list[Atom] = [("b", 1), ("a",), ("b", "berlin"), ("b", 1, 2), ("b", 12), ("a",)]
         found = [(one.symbol, one.arguments, one.all, one.found, one.rows) for one in tables_of(atoms)]
-        ones = [("b", 1), ("b", "berlin"), ("b", 12)]
+        ones = [("b", 1), ("b", 12), ("b", "berlin")]
         wanted = [("a", 0, 2, 2, [("a",)] * 2), ("b", 1, 3, 3, ones), ("b", 2, 1, 1, [("b", 1, 2)])]
         self.assertEqual(found, wanted)
         self.assertEqual([one.rows for one in tables_of(atoms, "BER b")], [[("b", "berlin")]])
         found_one = [(one.found, one.rows) for one in tables_of(atoms, "b(1", 1)]
+        headings = [one.headings for one in tables_of(atoms, headings=lambda symbol: (f"{symbol[0]}{symbol[1]}",))]
+        self.assertEqual(headings, [("a0",), ("b1",), ("b2",)])
         self.assertEqual(found_one, [(2, [("b", 1)]), (1, [("b", 1, 2)])])
         self.assertEqual(tables_of(atoms, "nothing"), [])
+
+    def test_rows_are_in_the_order_of_what_is_shown(self) -> None:
+        rows: list[Atom] = [
+            ("a", -5, "x"), ("a", 9, -1), ("a", 9, 10), ("a", 10, 0), ("a", 2**62, 0), ("a", 2**62 + 1, 0),
+            ("a", "", 1), ("a", "Oslo", 2), ("a", "oslo", 1), ("a", "oslo", "a"), ("a", "paris", -7), ("a", "rome", 0),
+        ]  # fmt: skip
+        for _ in range(20):
+            jumbled = random.sample(rows, len(rows))
+            (table,) = tables_of(jumbled)
+            self.assertEqual((table.rows, table.ordered), (rows, True))
+            self.assertEqual(tables_of(jumbled, most=3)[0].rows, rows[:3])
+        # of very many, to put them in order takes too long
+        with patch("chrrep.link.page.ORDERED", len(rows) - 1):
+            (table,) = tables_of(jumbled)
+            self.assertEqual((table.rows, table.ordered), (jumbled, False))
+            self.assertEqual(tables_of(jumbled, "oslo")[0].rows, rows[7:10])
 
     def test_how_far_members_are_behind(self) -> None:
         end = {1: 10, 2: 5}
@@ -430,13 +456,20 @@ class Browsers(Served):
     """The environment's CHRREP_PICTURES names a folder for pictures of the page."""
 
     def test_the_page_in_a_browser(self) -> None:
-        member, page = self.serve(PATHS + ":- chr_constraint closed/1.\n")
+        program = f"% chr_columns path(from, to, km)\n{PATHS}:- chr_constraint closed/1.\n"
+        member, page = self.serve(program)
         other = self.stack.enter_context(join(self.url))
         other.tell_many([[atom] for atom in ROUTES])
-        with Browser(1200, 800) as browser:
+        with Browser(1280, 800) as browser:
             browser.go(page.url)
-            browser.wait_for("document.querySelectorAll('#tables tr').length == 6")
+            # the row of headings is one of them
+            browser.wait_for("document.querySelectorAll('#tables tr').length == 7")
             self.assertIn("accepted: rules 1", browser.run("return document.getElementById('verdict').textContent"))
+            self.assertEqual(browser.run("return document.getElementById('line').placeholder"), "path(1,2,3)")
+            self.assertEqual(browser.run("return document.getElementById('program').textContent"), program)
+            self.assertNotIn("loading", browser.run("return document.getElementById('tables').textContent"))
+            self.assertEqual(browser.run(CELLS.format("th")), ["from", "to", "km"])
+            self.assertEqual(browser.run(CELLS.format("td:first-child"))[1:], FROM)
             self.assertEqual(browser.run("return document.querySelectorAll('tr.came, tr.went').length"), 0)
             browser.type("#line", "path(berlin,rome,1480)\n")
             browser.wait_for("document.getElementById('answer').textContent == 'told 1:1'")
@@ -451,7 +484,13 @@ class Browsers(Served):
             other.catch_up()
             read = "['1 (here)|1|0|now', '2|7|0|now']"
             browser.wait_for(f"{MEMBERS}.join() == {read}.join()")
-            for width, height in ((1200, 800), (400, 860)):
+            # what went stands where it stood
+            here = [FROM[0], "berlin", "berlin", "lisbon", *FROM[2:]]
+            self.assertEqual(browser.run(CELLS.format("td:first-child"))[1:], here)
+            lengths = browser.run(CELLS.format("tr td:nth-child(3)"))
+            self.assertEqual(lengths, ["1050", "1480", "1500", "625", "520", "1420", "430"])
+            browser.run("document.querySelector('summary').click()")
+            for width, height in ((1280, 860), (390, 860)):
                 browser.resize(width, height)
                 time.sleep(0.3)
                 self.assertLessEqual(browser.run("return document.documentElement.scrollWidth"), width)
@@ -459,7 +498,7 @@ class Browsers(Served):
                     browser.picture(Path(folder) / f"page-{width}.png")
             browser.type("#find", "paris rome")
             browser.wait_for("document.querySelectorAll('#tables section').length == 1")
-            browser.wait_for("document.querySelector('#tables small').textContent == '1 of 6 atoms'")
+            browser.wait_for("document.querySelector('#tables small').textContent == '1 of 6 facts'")
             browser.type("#line", "path(1,2)\n")
             browser.wait_for("document.getElementById('answer').className == 'bad'")
         self.assertEqual(member.count("path"), 6)
@@ -490,12 +529,16 @@ class Browsers(Served):
             browser.wait_for("document.querySelectorAll('#tables td').length == 6")
 
     def test_names_are_text_in_a_browser(self) -> None:
-        member, page = self.serve()
+        program = f"% </pre><script>document.title='taken'</script>\n% chr_columns <img src=x>\n{PATHS}"
+        with self.assertWarns(ColumnsWarning):
+            member, page = self.serve(program)
         member.tell(("path", HOSTILE, "<script>document.title='taken'</script>", 1))
         with Browser(800, 600) as browser:
             browser.go(page.url)
             browser.wait_for("document.querySelectorAll('#tables td').length == 3")
             self.assertEqual(browser.run("return document.querySelector('#tables td').textContent"), HOSTILE)
+            browser.wait_for(f"document.getElementById('program').textContent == {json.dumps(program)}")
+            self.assertEqual(browser.run(CELLS.format("th")), ["X", "Y", ""])
             self.assertEqual(browser.run("return document.querySelectorAll('main img, main script').length"), 0)
             self.assertEqual(browser.run("return document.title"), "chrrep")
 
@@ -514,6 +557,8 @@ class Refusing(BaseHTTPRequestHandler):
         pass
 
 
+CELLS = "return [...document.querySelectorAll('#tables {}')].map(cell => cell.textContent)"
+FROM = ["berlin", "berlin", "oslo", "paris", "S\u00e3o Paulo"]
 STATE = "document.getElementById('state').textContent"
 MEMBERS = """[...document.querySelectorAll('#members tr')].slice(1)
     .map(row => [...row.children].map(cell => cell.textContent).join('|'))"""

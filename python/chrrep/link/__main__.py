@@ -1,25 +1,34 @@
-"""A node as a command, which shares its operations with others by a log.
+"""Keeps facts by the rules of a program, together with all nodes that have the same log.
 
-Standard input has a line of atoms, `path(1,2,7), path(rome,"São Paulo",1)`, for each operation to tell, and the line
-`?` to show the store. Each is answered by a line: `told ORIGIN:NUMBER` once the operation is in the log, the store, or
-what was refused. In between the node follows the log. It ends with its input; where it serves a page, with Ctrl-C or a
-SIGTERM.
+Type facts, on one line between commas. The answer `told ORIGIN:NUMBER` says that they are in the log, and safe.
+
+  path(1,2,7), path(rome,"São Paulo",1)   tells two facts
+  ?                                       shows all facts that the rules have left
+  ? path                                  shows those of one symbol
+  ? path(rome,_,_)                        shows those with this argument; _ is any
+  help                                    shows the facts that this program has
+
+A line that is refused is answered by what is wrong with it. The end of the input (control-D) ends the node; with a page
+it goes on until Ctrl-C or a SIGTERM.
 """
 
 import argparse
+import logging
 import os
 import signal
 import sys
 import threading
-from collections.abc import Iterator
-from contextlib import AbstractContextManager, nullcontext
+import warnings
+from collections.abc import Callable, Iterator
+from contextlib import AbstractContextManager, nullcontext, suppress
 from functools import partial
 from pathlib import Path
 from typing import Self
 
 from .. import Atom, Refused, RefusedProgram
 from ..lines import Lines, text_of
-from ..names import NameClash, named_atoms_of
+from ..names import NameClash, named_atoms_of, named_text, pattern_of
+from ..prompt import example_of, fault_words, help_of
 from .faults import LogUnusable
 from .log import LOG_NAME, PATIENCE, one_line
 from .member import BATCH, SNAPSHOT_AFTER, Member, join
@@ -29,7 +38,12 @@ ACCEPTED, REFUSED, FAULT, INTERRUPTED, TERMINATED = 0, 1, 3, 130, 143
 _STANDARD_INPUT, _STANDARD_OUTPUT = 0, 1
 _CHUNK = 65_536
 _LOOK_SECONDS = 0.2
-_WITHOUT_ATOMS = ("", "?")
+_QUESTION, _HELP = "?", "help"
+_INSTALLED = "chrrep-link"
+_STATUSES = (
+    "Exit status: 0 the input has ended, 1 the program is refused, 2 these words are no command, 3 something failed and"
+    " is\ntold on standard error, 130 Ctrl-C, 143 SIGTERM. docs/NODES.md has the rest."
+)
 
 
 class Terminated(BaseException):
@@ -40,6 +54,8 @@ def main(words: list[str] | None = None) -> int:
     """Runs the command, and gives its exit status: 0 at the input's end, 1 for a refused program, 3 for a fault, 130
     and 143 after Ctrl-C and SIGTERM."""
     settings = _settings(words)
+    logging.basicConfig(format="chrrep.link: %(message)s")
+    warnings.showwarning = _warn
     try:
         with Signals() as signals:
             _run(settings, signals)
@@ -54,6 +70,10 @@ def main(words: list[str] | None = None) -> int:
         print(f"chrrep.link: {type(fault).__name__}: {one_line(fault)}", file=sys.stderr)
         return FAULT
     return ACCEPTED
+
+
+def _warn(message: Warning | str, *_: object, **__: object) -> None:
+    print(f"chrrep.link: {' '.join(str(message).split())}", file=sys.stderr, flush=True)
 
 
 class Signals:
@@ -94,22 +114,32 @@ class Signals:
 
 def _settings(words: list[str] | None) -> argparse.Namespace:
     parser = argparse.ArgumentParser(
-        prog="python -m chrrep.link", description=__doc__, formatter_class=argparse.RawDescriptionHelpFormatter
+        prog=_INSTALLED if Path(sys.argv[0]).name == _INSTALLED else "python -m chrrep.link",
+        description=__doc__,
+        epilog=_STATUSES,
+        formatter_class=argparse.RawDescriptionHelpFormatter,
     )
     add = parser.add_argument
-    engines = "sqlite:///PATH, redis://HOST:PORT/DB or postgresql://USER@HOST:PORT/DB"
-    add("--engine", metavar="URL", help=f"{engines}; left out, a file in the folder .chrrep beside the program text")
-    add("--origin", type=int, metavar="N", help="this node's number, which no other has; left out, one is allotted")
-    add("--log", default=LOG_NAME, metavar="NAME", help=f"the log's name in the engine ({LOG_NAME})")
-    away = f"how long the engine may be away ({PATIENCE:.0f})"
-    add("--patience", default=PATIENCE, type=float, metavar="SECONDS", help=away)
-    add("--wide", action="store_true", help="judge the program by sorted cases, which decide more programs")
-    after = f"atoms that are told from one snapshot to the next ({SNAPSHOT_AFTER})"
-    add("--snapshot-after", default=SNAPSHOT_AFTER, type=int, metavar="N", help=after)
-    add("--upgrade", type=Path, metavar="NEW", help="have the log go over to this program text, and end")
-    page = "serve a page on this port of loopback that shows the store, the members and what is told; 0 is any port"
+    add("program", nargs="?", type=Path, metavar="PROGRAM", help="the file with the rules; without it, the log's own")
+    engine = (
+        "where the log is: sqlite:///PATH, redis://HOST:PORT/DB or postgresql://USER@HOST:PORT/DB; without it, a file "
+        "in the folder .chrrep beside PROGRAM"
+    )
+    add("--engine", metavar="URL", help=engine)
+    add("--log", default=LOG_NAME, metavar="NAME", help=f"which log, where the engine has several ({LOG_NAME})")
+    page = "show the facts in a browser too, at http://127.0.0.1:PORT/; 0 takes a free port"
     add("--page", type=int, metavar="PORT", help=page)
-    add("program", nargs="?", type=Path, metavar="PROGRAM", help="the file of the program text; left out, the log's")
+    add("--upgrade", type=Path, metavar="NEW", help="have the log go over to the rules in the file NEW, and end")
+    wide = (
+        "decide by the columns that rules compare: more programs are decided; without it, only where there would be "
+        "too many cases"
+    )
+    add("--wide", action="store_true", help=wide)
+    away = f"how long to wait for an engine that doesn't answer ({PATIENCE:.0f})"
+    add("--patience", default=PATIENCE, type=float, metavar="SECONDS", help=away)
+    add("--origin", type=int, metavar="N", help="the ORIGIN of what this node tells; without it, a free one")
+    after = f"after how many told facts the log keeps what is left of all in their place ({SNAPSHOT_AFTER})"
+    add("--snapshot-after", default=SNAPSHOT_AFTER, type=int, metavar="N", help=after)
     settings = parser.parse_args(words)
     if settings.upgrade and settings.program:
         parser.error("with --upgrade NEW the log has the PROGRAM")
@@ -121,17 +151,30 @@ def _settings(words: list[str] | None) -> argparse.Namespace:
 
 
 def _run(settings: argparse.Namespace, signals: Signals) -> None:
-    engine = settings.engine or _beside(settings.program or settings.upgrade)
+    if settings.engine:
+        return _serve(settings, settings.engine, signals)
+    program = settings.program or settings.upgrade
+    folder = _folder_beside(program)
+    try:
+        _serve(settings, f"{PREFIX}{folder / program.stem}.sqlite", signals)
+    finally:
+        # one without a log was made in vain
+        with suppress(OSError):
+            folder.rmdir()
+
+
+def _serve(settings: argparse.Namespace, engine: str, signals: Signals) -> None:
     options = {name: getattr(settings, name) for name in ("origin", "log", "patience", "snapshot_after")}
-    is_wide = None if settings.upgrade else settings.wide or None
-    with join(engine, settings.program, wide=is_wide, **options) as member:
+    is_wide = settings.wide or None
+    with join(engine, settings.program, wide=None if settings.upgrade else is_wide, **options) as member:
         if not settings.engine:
             print(f"chrrep.link: the log is {engine}, and this node's origin {member.origin}", file=sys.stderr)
         if settings.upgrade:
-            member.upgrade(settings.upgrade, wide=settings.wide)
+            member.upgrade(settings.upgrade, wide=is_wide)
             _say(f"upgraded: rules {member.verdict.rules}, cases {member.verdict.cases}")
         else:
             member.when_rejoined = partial(_say_program, member)
+            _begin_prompt(member)
             with _page(member, settings.page):
                 _converse(member, signals, settings.page is not None)
 
@@ -148,14 +191,14 @@ def _page(member: Member, port: int | None) -> AbstractContextManager[object]:
     return page
 
 
-def _beside(program: Path) -> str:
-    """The address of the log in the folder `.chrrep` beside a program text, which is made where it isn't there."""
+def _folder_beside(program: Path) -> Path:
+    """The folder `.chrrep` beside a program text, which is made where it isn't there."""
     folder = program.resolve().parent / ".chrrep"
     try:
         folder.mkdir(exist_ok=True)
     except OSError as fault:
         raise LogUnusable(f"the folder of the log can't be made: {fault}") from fault
-    return f"{PREFIX}{folder / program.stem}.sqlite"
+    return folder
 
 
 def _converse(member: Member, signals: Signals, goes_on: bool) -> None:
@@ -182,23 +225,49 @@ def _converse(member: Member, signals: Signals, goes_on: bool) -> None:
         raise failures[0]
 
 
+def _begin_prompt(member: Member) -> None:
+    """Says to whoever sits at a terminal what may be typed."""
+    if os.isatty(_STANDARD_INPUT):
+        example = f"type {example_of(member.columns)} to tell a fact, ? to see all, {_HELP} for more"
+        print(f"chrrep.link: {example}", file=sys.stderr, flush=True)
+
+
 def _answer(member: Member, lines: list[bytes]) -> None:
     """Answers lines that came at once. Operations that follow each other are told together."""
     tells: list[tuple[Atom, ...]] = []
     for line in lines:
-        try:
-            text = text_of(line).strip()
-            atoms = named_atoms_of(text) if text not in _WITHOUT_ATOMS else ()
-        except ValueError as fault:
+        read = _read(member, line)
+        if isinstance(read, tuple):
+            tells.append(read)
+        elif read:
             _tell(member, tells)
-            _say(f"refused: {fault}")
-            continue
-        if atoms:
-            tells.append(atoms)
-        elif text:
-            _tell(member, tells)
-            _say(member.going_over(member.show_text))
+            _say(read())
     _tell(member, tells)
+
+
+def _read(member: Member, line: bytes) -> tuple[Atom, ...] | Callable[[], str] | None:
+    """The atoms that a line tells, or what answers it; None where it is empty."""
+    try:
+        text = text_of(line).strip()
+        if text.startswith(_QUESTION):
+            return partial(_shown, member, text)
+        if text == _HELP and 0 not in member.columns.symbols.get(_HELP, []):
+            return partial(help_of, member.columns)
+        return named_atoms_of(text) if text else None
+    except ValueError as fault:
+        said = f"refused: {fault_words(fault, member.columns)}"
+        return lambda: said
+
+
+def _shown(member: Member, text: str) -> str:
+    """The store, or what is asked for of it behind a question mark."""
+    try:
+        if text == _QUESTION:
+            return member.going_over(member.show_text)
+        symbol, pattern = pattern_of(text, len(_QUESTION))
+        return named_text(member.going_over(lambda: member.show(symbol, *pattern)))
+    except (ValueError, Refused) as fault:
+        return f"refused: {fault_words(fault, member.columns)}"
 
 
 def _tell(member: Member, tells: list[tuple[Atom, ...]]) -> None:

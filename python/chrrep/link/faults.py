@@ -3,6 +3,7 @@
 import errno
 
 from ..refusals import ChrrepError
+from ..words import file_words
 
 
 class LinkLost(ChrrepError):
@@ -65,6 +66,16 @@ class Diverged(ChrrepError):
         super().__init__(f"two stores at position {position}: here {ours[:60]}, in the log {theirs[:60]}")
 
 
+class NoDriver(ChrrepError, ImportError):
+    """Python's client of an engine isn't installed."""
+
+    def __init__(self, module: str, extra: str) -> None:
+        super().__init__(
+            f"this engine needs Python's {module}, which isn't installed: pip install {module}, or chrrep with its "
+            f"extra, './python[{extra}]'"
+        )
+
+
 class PageUnusable(ChrrepError):
     """The page can't be served: its port is taken, or not to be had."""
 
@@ -78,7 +89,9 @@ class PageUnusable(ChrrepError):
 def _first_difference(ours: bytes, theirs: bytes) -> str:
     """Where two texts differ first, in words."""
     if ours == theirs:
-        return "the texts are one, but one of them is judged with --wide"
+        return "the texts are one, but judged in two ways: leave --wide out, and the program is judged as the log says"
+    if is_file := file_words(ours):
+        return is_file
     here, there = (text.decode(errors="replace").split("\n") for text in (ours, theirs))
     place = next((at for at, pair in enumerate(zip(here, there)) if pair[0] != pair[1]), min(len(here), len(there)))
     said = (repr(lines[place][:80]) if place < len(lines) else "not there" for lines in (here, there))

@@ -14,7 +14,7 @@ import time
 import weakref
 from abc import ABC, abstractmethod
 from collections.abc import Callable, Iterable, Iterator, Mapping, Sequence
-from contextlib import suppress
+from contextlib import contextmanager, suppress
 from functools import partial, wraps
 from types import TracebackType
 from typing import TYPE_CHECKING, Any, NamedTuple, ParamSpec, Self, TypeAlias, TypeVar
@@ -22,7 +22,7 @@ from urllib.parse import urlsplit
 
 from ..refusals import Full, WrongProcess
 from ..texts import Atom, Id, atoms_text
-from .faults import LinkLost, LogLost, LogUnusable, NewerFormat, OriginShared
+from .faults import LinkLost, LogLost, LogUnusable, NewerFormat, NoDriver, OriginShared
 from .room import ROOM
 
 if TYPE_CHECKING:
@@ -75,10 +75,10 @@ T = TypeVar("T")
 
 
 class Program(NamedTuple):
-    """A program text, and whether it is judged by sorted cases alone."""
+    """A program text, and whether it is judged by sorted cases: None where that has yet to be found out."""
 
     text: bytes
-    is_wide: bool = False
+    is_wide: bool | None = False
 
 
 class Mark(NamedTuple):
@@ -345,6 +345,7 @@ class Link(ABC):
         self.is_allotted = False
         self._process = os.getpid()
         self._closing = Flag()
+        self._is_away = False
         self._is_closed = False
         self._renewed = time.monotonic()
 
@@ -541,6 +542,13 @@ class Link(ABC):
         if end > batch.before:
             raise OriginShared(self.origin)
 
+    def _tell_away(self, error: Exception, left: float) -> None:
+        """Tells at once that the engine is away, and once while it is. A change of the program takes a moment."""
+        is_sealed = isinstance(error, Sealed)
+        level = logging.DEBUG if self._is_away or is_sealed else logging.WARNING
+        _LOG.log(level, "the engine doesn't answer, and is asked again for %.0f seconds: %s", left, one_line(error))
+        self._is_away = self._is_away or not is_sealed
+
     def _patiently(self, call: Callable[[float], T], lost: tuple[type[Exception], ...]) -> T:
         """The call's result, tried again while the engine is away. It is told how many seconds are left."""
         self.check_process()
@@ -550,11 +558,14 @@ class Link(ABC):
             if self._is_closed:
                 raise LinkLost("the link was closed")
             try:
-                return call(max(_FIRST_PAUSE, end - time.monotonic()))
+                result = call(max(_FIRST_PAUSE, end - time.monotonic()))
             except (*lost, Sealed) as error:
                 if time.monotonic() + pause > end or self._closing.is_set:
                     raise LinkLost(f"the engine doesn't answer: {one_line(error)}") from error
-                _LOG.info("the engine doesn't answer, and is asked again in %g seconds: %s", pause, one_line(error))
+                self._tell_away(error, end - time.monotonic())
+            else:
+                self._is_away = False
+                return result
             self._closing.wait(pause)
             pause = min(2 * pause, _LONGEST_PAUSE)
 
@@ -580,7 +591,7 @@ def connect(url: str, origin: int | None = None, *, log: str = LOG_NAME, patienc
     """The link of a node to the log of this name, in the engine that the address names: `sqlite:///PATH`, a file that
     nodes of one machine share, `redis://..` or `postgresql://..`.
 
-    Raises `ImportError` where the engine's client for Python isn't installed, `LinkLost` where there is no answer,
+    Raises `NoDriver` where the engine's client for Python isn't installed, `LinkLost` where there is no answer,
     `LogUnusable` where the file can't be used, `OriginShared` where another node has the origin, and `NewerFormat`.
     """
     scheme = urlsplit(url).scheme
@@ -589,14 +600,25 @@ def connect(url: str, origin: int | None = None, *, log: str = LOG_NAME, patienc
 
         return SqliteLink(url, origin, log, patience)
     if scheme in ("redis", "rediss", "unix"):
-        from .redis_streams import RedisLink
+        with _driver("redis", "redis"):
+            from .redis_streams import RedisLink
 
         return RedisLink(url, origin, log, patience)
     if scheme in ("postgresql", "postgres"):
-        from .postgresql import PostgresLink
+        with _driver("psycopg2", "postgresql"):
+            from .postgresql import PostgresLink
 
         return PostgresLink(url, origin, log, patience)
     raise ValueError(f"no engine is known by {scheme!r}: sqlite:///PATH, redis:// and postgresql:// are")
+
+
+@contextmanager
+def _driver(module: str, extra: str) -> Iterator[None]:
+    """Says of a module that isn't there what to install."""
+    try:
+        yield
+    except ImportError as fault:
+        raise NoDriver(module, extra) from fault
 
 
 def entries_of(rows: Iterable[tuple[Any, ...]]) -> Iterator[Entry]:

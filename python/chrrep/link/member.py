@@ -7,13 +7,15 @@ import threading
 import weakref
 from collections.abc import Callable, Iterable, Iterator, Mapping, Sequence
 from contextlib import contextmanager, suppress
+from functools import partial
 from itertools import chain
 from types import TracebackType
 from typing import NamedTuple, Self, TypeVar
 
+from ..columns import Columns, ColumnsWarning, OrderWarnings, warn
 from ..names import NameClash, Names, named_text, number_of, numbered
 from ..node import UNASKED, Timeout
-from ..refusals import Full, NodeDied, Refused, RefusedProgram, WrongProcess
+from ..refusals import BadLine, Full, NodeDied, Refused, RefusedProgram, Shape, WrongProcess
 from ..stores import StoreReader
 from ..texts import (
     Atom,
@@ -21,11 +23,13 @@ from ..texts import (
     Id,
     ProgramText,
     Verdict,
+    atoms_of,
     atoms_text,
     changes_between,
     found_in,
     program_bytes,
 )
+from ..words import Wanted, check_pattern, shape_fault
 from .faults import (
     Diverged,
     LinkLost,
@@ -95,8 +99,9 @@ class _Journals(threading.local):
 class Member:
     """A node, and its link to the log that it shares with other nodes of one program.
 
-    `program` is what a `Node` takes; left out, it is the log's. The first member gives the log its program, judged by
-    sorted cases with `wide`; one that brings another text is `OtherProgram`. `chrrep` names the program to run, and
+    `program` is what a `Node` takes; left out, it is the log's. The first member gives the log its program, judged as
+    `check` judges it, also with `wide`, and all members judge it so; one that brings another text, or asks by `wide`
+    for another way, is `OtherProgram`. `chrrep` names the program to run, and
     `timeout` is how long the node may take to answer, `ANSWER_SECONDS` left out, as for a `Node`; how long the engine
     may is the link's.
 
@@ -105,6 +110,9 @@ class Member:
     each `snapshot_after` told atoms it takes a snapshot, with which others begin, and which the log needs no operations
     for. Calls may come from any thread. Leaving a `with` ends the node; the link is closed by whoever opened it.
     """
+
+    _brought: Replica | None = None
+    """A node of the program that is brought, where one was made before the link."""
 
     def __init__(
         self,
@@ -134,12 +142,12 @@ class Member:
         self._running = Running(chrrep, timeout)
         self._listeners: list[Callable[[Sequence[Entry]], object]] = []
         self.when_rejoined: Callable[[], object] | None = None
-        self._replica: Replica
         self._epoch: int
         self._generation: int
-        self._take_up(*_joined(link, program, wide, self._running))
+        self._replica, state = _joined(link, program, wide, self._running, self._brought)
         link.position = _position_of(weakref.ref(self))
         try:
+            self._take_up(self._replica, state)
             while not self._is_caught_up():
                 # the log may have gone over to a program that is not the one brought
                 self._replace(*_joined(link, program, wide, self._running))
@@ -161,6 +169,11 @@ class Member:
     def verdict(self) -> Verdict:
         """What was said of the program."""
         return self._replica.node.verdict
+
+    @property
+    def columns(self) -> Columns:
+        """What the program's text tells of symbols and their columns."""
+        return self._columns
 
     @property
     def pid(self) -> int:
@@ -240,11 +253,21 @@ class Member:
     def show(self, symbol: str | None = None, *pattern: str | int | None) -> tuple[Atom, ...]:
         """The store at rest of all that is in the log by now, or of it the atoms that a `Node` shows for a pattern. A
         number whose name was told is given as the name."""
-        text = self._show()
         if symbol is None:
-            return self._store.atoms_of(text, len(self._names))
+            return self._store.atoms_of(self._show(), len(self._names))
+        check_pattern((symbol, *pattern), self.columns.symbols, self._wanted)
         numbers = (number_of(value) if isinstance(value, str) else value for value in pattern)
-        return self._names.named(found_in(text, symbol, *numbers))
+        return self._names.named(found_in(self._show(), symbol, *numbers))
+
+    def show_named(self, symbol: str, /, **values: str | int) -> tuple[dict[str, str | int], ...]:
+        """The facts of a symbol whose columns have names, `% chr_columns seen(parcel, time, place)`, by these; with
+        values only the facts that have them: `show_named("seen", parcel="box")`. Raises `UnknownColumn`, and what
+        `show` raises."""
+        return tuple(
+            dict(zip(names, arguments))
+            for names, pattern in self.columns.patterns(symbol, values)
+            for _, *arguments in self.show(symbol, *pattern)
+        )
 
     def show_text(self) -> str:
         """The store at rest of all that is in the log by now, as it is printed, with names."""
@@ -296,7 +319,7 @@ class Member:
                 return False
             return self._keep(count)
 
-    def upgrade(self, program: ProgramText, *, wide: bool = False) -> None:
+    def upgrade(self, program: ProgramText, *, wide: bool | None = None) -> None:
         """Has the log go over to another program, which is told the store at rest of all that is in the log by now.
 
         Others wait until that is done, and are told `ProgramChanged` then; this member goes on. Nothing has changed
@@ -452,10 +475,26 @@ class Member:
         if texts is not None:
             return Admitted(texts)
         # there are names, or what is to be refused
-        texts = self._asked([[numbered(atom) for atom in atoms] for atoms in operations])
+        with self._in_words(operations):
+            texts = self._asked([[numbered(atom) for atom in atoms] for atoms in operations])
+        self._order.look_at(atom for atoms in operations for atom in atoms)
         for name in self._names.of(atom for atoms in operations for atom in atoms).values():
             self.link.check_name(name)
         return Admitted(texts, operations)
+
+    @contextmanager
+    def _in_words(self, operations: Operations) -> Iterator[None]:
+        """Says of operations that are refused what is wrong with the first of them, by their names."""
+        try:
+            yield
+        except (BadLine, Shape) as refusal:
+            faults = (shape_fault(atoms_text(atoms), self._wanted) for atoms in operations)
+            refusal.say(next(filter(None, faults), None))
+            raise
+
+    @property
+    def _wanted(self) -> Wanted:
+        return Wanted(self._columns.argument, takes_names=True)
 
     def _asked(self, operations: list[list[Atom]]) -> list[str]:
         """Operations without names as they are appended, of which the node was asked where it has to be."""
@@ -476,7 +515,11 @@ class Member:
 
     def _take_up(self, replica: Replica, state: State) -> None:
         self._replica, self._epoch, self._generation = replica, state.epoch, state.generation
+        self._columns = replica.node.columns
+        self._order = OrderWarnings(self._columns)
         self._late = None
+        for fault in self._columns.faults:
+            warn(f"the program names columns in vain: {fault}", ColumnsWarning)
 
     def _replace(self, replica: Replica, state: State) -> None:
         """Goes on with another replica, of what the log has by now."""
@@ -667,10 +710,43 @@ class Member:
     def _compare(self, there: State) -> None:
         """Raises `Diverged` where the snapshot of this position is another store."""
         if there.position == self._replica.position and there.store != (ours := self._replica.show()):
-            raise Diverged(dict(there.position), ours, there.store)
+            raise Diverged(dict(there.position), self._with_names(ours), self._with_names(there.store))
+
+    def _with_names(self, store: str) -> str:
+        """A store's text as it is shown; as it is where it is none."""
+        with suppress(ValueError):
+            return named_text(self._names.named(atoms_of(store)))
+        return store
 
 
-@contextmanager
+class Joined(Member):
+    """A member that closes its link too."""
+
+    def __init__(
+        self,
+        connects: Callable[[], Link],
+        program: bytes | None,
+        brought: Replica | None,
+        *,
+        wide: bool | None,
+        timeout: Timeout,
+        snapshot_after: int,
+    ) -> None:
+        self._brought = brought
+        link = connects()
+        try:
+            super().__init__(link, program, wide=wide, timeout=timeout, snapshot_after=snapshot_after)
+        except BaseException:
+            link.close()
+            raise
+        self._brought = None
+
+    def close(self) -> None:
+        """Ends the node, and closes the link."""
+        super().close()
+        self.link.close()
+
+
 def join(
     url: str,
     program: ProgramText | None = None,
@@ -681,13 +757,36 @@ def join(
     wide: bool | None = None,
     timeout: Timeout = UNASKED,
     snapshot_after: int = SNAPSHOT_AFTER,
-) -> Iterator[Member]:
-    """A member of the log in the engine that the address names, as `connect` and `Member` say; all is closed after."""
-    with (
-        connect(url, origin, log=log, patience=patience) as link,
-        Member(link, program, wide=wide, timeout=timeout, snapshot_after=snapshot_after) as member,
-    ):
-        yield member
+) -> Member:
+    """A member of the log in the engine that the address names, as `connect` and `Member` say. Its `close`, or leaving
+    a `with`, closes all. Where the program is refused, or there is none, no file is made."""
+    text = None if program is None else program_bytes(program)
+    brought = _brought(text, wide, Running(timeout=timeout)) if _makes_file(url) else None
+    connects = partial(connect, url, origin, log=log, patience=patience)
+    try:
+        return Joined(connects, text, brought, wide=wide, timeout=timeout, snapshot_after=snapshot_after)
+    except BaseException:
+        if brought:
+            brought.close()
+        raise
+
+
+def _makes_file(url: str) -> bool:
+    """Whether to connect makes a file."""
+    if not url.startswith("sqlite:"):
+        return False
+    from .sqlite import PREFIX
+
+    path = url.removeprefix(PREFIX)
+    is_file = path not in ("", url) and os.path.isdir(os.path.dirname(os.path.abspath(path)))
+    return is_file and not os.path.exists(path)
+
+
+def _brought(text: bytes | None, wide: bool | None, running: Running) -> Replica:
+    """A node of a program that is brought to a log. What is refused is no log's program."""
+    if text is None:
+        raise NoProgram
+    return Replica(Program(text, wide), running)
 
 
 def _position_of(reference: "weakref.ref[Member]") -> Callable[[], Position]:
@@ -702,19 +801,15 @@ def _position_of(reference: "weakref.ref[Member]") -> Callable[[], Position]:
 
 
 def _joined(
-    link: Link, program: ProgramText | None, wide: bool | None, running: Running
+    link: Link, program: ProgramText | None, wide: bool | None, running: Running, replica: Replica | None = None
 ) -> tuple[Replica, State]:
     """A node of the log's program, which is the one brought where the log has none, and what the log and the node go on
-    from."""
+    from. A node of the program that is brought may be there already."""
     text = None if program is None else program_bytes(program)
     state = link.state()
-    replica: Replica | None = None
     try:
         if state.program is None:
-            if text is None:
-                raise NoProgram
-            # what is refused is no log's program
-            replica = Replica(Program(text, bool(wide)), running)
+            replica = replica or _brought(text, wide, running)
             link.begin(replica.program)
             state = link.state()
         assert state.program

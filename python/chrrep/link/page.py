@@ -14,7 +14,7 @@ import sys
 import threading
 import time
 from collections import deque
-from collections.abc import Iterable, Iterator, Sequence
+from collections.abc import Callable, Iterable, Iterator, Sequence
 from contextlib import contextmanager, suppress
 from http import HTTPStatus
 from http.server import BaseHTTPRequestHandler, ThreadingHTTPServer
@@ -23,6 +23,7 @@ from typing import Any, NamedTuple
 from urllib.parse import SplitResult, parse_qs, urlsplit
 
 from ..names import NameClash, named_atoms_of, named_text
+from ..prompt import example_of, fault_words
 from ..refusals import ChrrepError, Refused
 from ..texts import LINE_LIMIT, Atom, Change, atoms_of
 from .faults import LinkLost, PageUnusable
@@ -32,6 +33,8 @@ from .member import Member
 LOOPBACK = "127.0.0.1"
 ROWS = 300
 """Atoms of a table that are shown at most; a search finds the others."""
+ORDERED = 20_000
+"""Atoms of a table that are put in the order of what is shown, at most; more stand as `show` gives them."""
 MARKS = 1000
 """Atoms of a change that are marked at most."""
 
@@ -53,16 +56,24 @@ _LOG = logging.getLogger("chrrep.link")
 
 
 class Table(NamedTuple):
-    """The atoms of one symbol."""
+    """The atoms of one symbol, with what stands over their columns, and whether they are in the order of what is
+    shown."""
 
     symbol: str
     arguments: int
     all: int
     found: int
     rows: list[Atom]
+    headings: tuple[str, ...] = ()
+    ordered: bool = True
 
 
-def tables_of(atoms: Iterable[Atom], find: str = "", most: int = ROWS) -> list[Table]:
+def tables_of(
+    atoms: Iterable[Atom],
+    find: str = "",
+    most: int = ROWS,
+    headings: Callable[[tuple[str, int]], tuple[str, ...]] = lambda symbol: (),
+) -> list[Table]:
     """The atoms by symbols, and of each symbol the first that have all words that are looked for."""
     words = find.lower().split()
     by_symbol: dict[tuple[str, int], list[Atom]] = {}
@@ -71,9 +82,18 @@ def tables_of(atoms: Iterable[Atom], find: str = "", most: int = ROWS) -> list[T
     tables = []
     for (symbol, arguments), all_rows in sorted(by_symbol.items()):
         rows = [atom for atom in all_rows if _has(atom, words)] if words else all_rows
+        is_ordered = len(rows) <= ORDERED
+        if is_ordered:
+            rows.sort(key=_in_order)
         if rows:
-            tables.append(Table(symbol, arguments, len(all_rows), len(rows), rows[:most]))
+            shown = Table(symbol, arguments, len(all_rows), len(rows), rows[:most])
+            tables.append(shown._replace(headings=headings((symbol, arguments)), ordered=is_ordered))
     return tables
+
+
+def _in_order(atom: Atom) -> list[tuple[bool, int, str, str]]:
+    """By the first argument that differs: numbers as such, and behind them names by their letters, small or capital."""
+    return [(True, 0, it.lower(), it) if isinstance(it, str) else (False, it, "", "") for it in atom[1:]]
 
 
 def _has(atom: Atom, words: list[str]) -> bool:
@@ -228,9 +248,14 @@ class Watcher:
         return {"members": members, "operations": sum(end.values())}
 
     def _program(self) -> object:
-        verdict = self._member.verdict
-        said = f"accepted: rules {verdict.rules}, cases {verdict.cases}"
-        return {"verdict": said, "log": f"log {self._member.link.log}, origin {self._member.origin}"}
+        verdict, columns = self._member.verdict, self._member.columns
+        said = f"accepted{' with --wide' * verdict.is_wide}: rules {verdict.rules}, cases {verdict.cases}"
+        return {
+            "verdict": said,
+            "log": f"log {self._member.link.log}, origin {self._member.origin}",
+            "example": example_of(columns),
+            "text": self._member.program.text.decode(errors="replace"),
+        }
 
     def _line(self, entry: Entry) -> tuple[str, str]:
         try:
@@ -419,7 +444,8 @@ class _Handler(BaseHTTPRequestHandler):
         except ValueError as fault:
             self._send(HTTPStatus.BAD_REQUEST, f"This is no search: {one_line(fault)}")
             return
-        tables = tables_of(self.server.page.watcher.atoms(), find)
+        page = self.server.page
+        tables = tables_of(page.watcher.atoms(), find, headings=page.member.columns.headings)
         answer = {"tables": [{**table._asdict(), "rows": [*map(_sent, table.rows)]} for table in tables]}
         self._begin(HTTPStatus.OK, "application/json")
         self._write(json_text(answer))
@@ -466,7 +492,9 @@ def _told(member: Member, line: str) -> tuple[HTTPStatus, str]:
     try:
         atoms = named_atoms_of(line.strip())
         id = member.going_over(lambda: member.tell(*atoms))
-    except (ValueError, Refused, NameClash) as refusal:
+    except ValueError as fault:
+        return HTTPStatus.UNPROCESSABLE_ENTITY, f"refused: {fault_words(fault, member.columns)}"
+    except (Refused, NameClash) as refusal:
         return HTTPStatus.UNPROCESSABLE_ENTITY, f"refused: {one_line(refusal)}"
     except LinkLost as lost:
         return HTTPStatus.SERVICE_UNAVAILABLE, f"{one_line(lost)}: it may be told, or not"

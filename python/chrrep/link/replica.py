@@ -61,6 +61,7 @@ class Replica:
 
     def __init__(self, program: Program, running: Running = Running()) -> None:
         self.program = program
+        """How it is judged is known from its first node on, and the others judge so too."""
         self.position: dict[int, int] = {}
         self.told = 0
         self.writing = Writing()
@@ -70,6 +71,7 @@ class Replica:
         self._begun_with = 0
         self._running = running
         self.node = self._new_node()
+        self.program = program._replace(is_wide=self.node.verdict.is_wide)
 
     def begin(self, position: Position, store: str) -> None:
         """Goes on from a store, which stands for all operations up to a position."""
