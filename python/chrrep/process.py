@@ -14,7 +14,7 @@ _GRACE = 5.0
 """Seconds that a program has to end after the end of its input."""
 _PIPE = 65_536
 """Bytes that a pipe holds, and so the most that one reading finds."""
-_LARGE_PIPE = 1_048_576
+_LARGE_PIPE = 262_144
 """Bytes that the pipe to the program holds, where the system allows it: what is sent while the program works."""
 _NOTHING = memoryview(b"")
 _LOG = logging.getLogger("chrrep.node")

@@ -15,7 +15,7 @@ from typing import Any
 from unittest.mock import patch
 
 import chrrep
-from chrrep import Full, Id, NodeDied, WrongProcess
+from chrrep import Atom, Full, Id, NodeDied, WrongProcess
 from chrrep.link import (
     Batch,
     Diverged,
@@ -265,8 +265,13 @@ class Interrupts(Links):
         link = self.link(patience=20.0)
         member = self.stack.enter_context(Member(link, MARKED, snapshot_after=10**6))
         chance, longest, count = random.Random(5), self.seconds_of(member), 0
+        told: "Counter[Atom]" = Counter()
         for turn in range(1, self.ROUNDS + 1):
-            operations = marks(10 * turn, 1 + turn % 3)
+            operations: list[list[Atom]] = [[("mark", 10 * turn + at)] for at in range(1 + turn % 3)]
+            if turn % 4 == 0:
+                # names are appended in another way
+                operations = [[("mark", f"name {turn}")]]
+            told.update(atom for atom, in operations)
             fault = self.interrupted(member, operations, 1.2 * longest * chance.random())
             count += fault is not None
             begin = time.monotonic()
@@ -280,9 +285,8 @@ class Interrupts(Links):
                     member = self.stack.enter_context(Member(link, snapshot_after=10**6))
             self.assertLess(time.monotonic() - begin, 15.0)
         self.assertGreater(count, self.ROUNDS // 4)
-        wanted = Counter(mark for turn in range(1, self.ROUNDS + 1) for (mark,) in marks(10 * turn, 1 + turn % 3))
         for each in (member, self.member()):
-            self.assertEqual(Counter(each.show("mark")), wanted)
+            self.assertEqual(Counter(each.show("mark")), told)
 
     def seconds_of(self, member: Member) -> float:
         """How long a tell takes that nothing delays."""
@@ -293,7 +297,7 @@ class Interrupts(Links):
             times.append(time.monotonic() - begin)
         return min(times)
 
-    def interrupted(self, member: Member, operations: Marks, seconds: float) -> BaseException | None:
+    def interrupted(self, member: Member, operations: list[list[Atom]], seconds: float) -> BaseException | None:
         """What a tell raises that is interrupted after so long, unless it is done before."""
         try:
             self.is_armed = True
@@ -461,6 +465,17 @@ class Losses(Links):
 
     is_made_anew = True
     """Whether who joins such a log makes it anew."""
+
+    def test_another_log_in_its_place_that_differs_by_its_id_alone(self) -> None:
+        member = self.member(MARKED)
+        member.tell(("mark", 1))
+        self.engine.write_id(self.log, "y" * 32)
+        calls: list[Callable[[], object]] = [lambda: member.tell(("mark", 2)), member.show, member.snapshot]
+        for call in calls:
+            with self.assertRaisesRegex(LinkLost, "another log") as raised:
+                call()
+            self.assertEqual((raised.exception.told, raised.exception.unsure), ((), ()))
+        self.assertEqual(self.member().show(), (("mark", 1),))
 
     def test_operations_of_its_own_that_are_gone(self) -> None:
         member = self.member(MARKED)

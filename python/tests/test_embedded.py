@@ -309,6 +309,19 @@ class Files(unittest.TestCase):
                 self.assertEqual(member.link.read({}).entries[0].id, Id(1, end))
             self.assertEqual(ask("SELECT number, count FROM entries"), [(2500, 1)])
 
+    def test_operations_that_are_told_at_once_and_fit_no_line(self) -> None:
+        """The node is sent them in parts, each once."""
+        with join(self.url, MARKED) as member:
+            told = [[("mark", 10**18 + 64 * at + more) for more in range(64)] for at in range(1000)]
+            self.assertGreater(len(str(told)), 1_048_576)
+            ids = member.tell_many(told)
+            ids.append(member.tell(("mark", 1)))
+            self.assertEqual(ids, [Id(1, number) for number in range(1, 1002)])
+            shown = member.show()
+            self.assertEqual((len(shown), len(set(shown))), (64_001, 64_001))
+        with join(self.url) as member:
+            self.assertEqual(member.show(), shown)
+
     def test_a_row_that_is_damaged(self) -> None:
         with join(self.url, MARKED) as member:
             member.tell_many([[("mark", value)] for value in range(20)])
