@@ -140,26 +140,27 @@ class Columns:
             self.named[symbol, len(names)] = tuple(names)
 
 
-class OrderWarnings:
-    """Warns, once for each column, of names that are told where a rule compares numbers by their order."""
+class Orders:
+    """Names that are told where a rule compares numbers by their order, the first one of each column."""
 
     def __init__(self, columns: Columns) -> None:
-        self._columns = columns
+        self.columns = columns
         self._left = {(name, arguments + 1): dict(rules) for (name, arguments), rules in columns.by_order.items()}
 
-    def look_at(self, atoms: Iterable[Sequence[str | int]]) -> None:
-        """Looks at atoms that are to be told."""
+    def found(self, atoms: Iterable[Sequence[str | int]]) -> Iterator[str]:
+        """What is to be said of atoms that are to be told."""
         for atom in atoms if self._left else ():
-            places = self._left.get((str(atom[0]), len(atom)))
-            for place in [place for place in places or () if isinstance(atom[place], str)]:
-                self._warn(atom, place, self._left[str(atom[0]), len(atom)].pop(place))
+            rules = self._left.get((str(atom[0]), len(atom)), {})
+            for place in [place for place in tuple(rules) if isinstance(atom[place], str)]:
+                # another thread may have found it
+                if rule := rules.pop(place, None):
+                    yield self._words(atom, place, rule)
 
-    def _warn(self, atom: Sequence[str | int], place: int, rule: str) -> None:
-        argument = self._columns.argument(str(atom[0]), len(atom) - 1, place)
-        warn(
+    def _words(self, atom: Sequence[str | int], place: int, rule: str) -> str:
+        argument = self.columns.argument(str(atom[0]), len(atom) - 1, place)
+        return (
             f"{rule} compares {argument} of {atom[0]} by order, and {_shown(str(atom[place]))!r} is told there: "
-            "names have an order, one at all nodes, that means nothing, so tell numbers where it is to mean something",
-            OrderWarning,
+            "names have an order, one at all nodes, that means nothing, so tell numbers where it is to mean something"
         )
 
 
