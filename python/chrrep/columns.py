@@ -21,7 +21,7 @@ T = TypeVar("T")
 Symbol: TypeAlias = tuple[str, int]
 """A name, and a number of arguments."""
 
-_NAMING = re.compile(r"^[^%\n]*%+[ \t]*chr_columns\b(.*)$", re.MULTILINE)
+_NAMING = re.compile(r"[^%]*%+\s*chr_columns\b(.*)", re.DOTALL)
 _NAMED = re.compile(r"\s*([a-z]\w*)\s*\(([^()]*)\)\s*(,|\.?\s*\Z)", re.ASCII)
 _NAME = re.compile(r"[a-z]\w*", re.ASCII)
 _COMMENT = re.compile(r"%[^\n]*")
@@ -51,9 +51,9 @@ class Columns:
         """The names of the columns of a symbol, where they are declared."""
         self.faults: list[str] = []
         """What is wrong with declarations of names."""
-        for place in _NAMING.finditer(self._text):
-            line = self._text.count("\n", 0, place.start(1)) + 1
-            self.faults += [f"line {line}: {fault}" for fault in self._name_all(place[1])]
+        for number, line in enumerate(self._text.split("\n"), 1):
+            if naming := _NAMING.match(line):
+                self.faults += [f"line {number}: {fault}" for fault in self._name_all(naming[1])]
         del self.faults[_MOST_FAULTS:]
 
     @cached_property
