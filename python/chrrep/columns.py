@@ -21,7 +21,7 @@ T = TypeVar("T")
 Symbol: TypeAlias = tuple[str, int]
 """A name, and a number of arguments."""
 
-_NAMING = re.compile(r"^[^%\n]*%+[ \t]*chr_columns\b(.*)$", re.MULTILINE)
+_NAMING = re.compile(r"[^%]*%+\s*chr_columns\b(.*)", re.DOTALL)
 _NAMED = re.compile(r"\s*([a-z]\w*)\s*\(([^()]*)\)\s*(,|\.?\s*\Z)", re.ASCII)
 _NAME = re.compile(r"[a-z]\w*", re.ASCII)
 _COMMENT = re.compile(r"%[^\n]*")
@@ -51,9 +51,9 @@ class Columns:
         """The names of the columns of a symbol, where they are declared."""
         self.faults: list[str] = []
         """What is wrong with declarations of names."""
-        for place in _NAMING.finditer(self._text):
-            line = self._text.count("\n", 0, place.start(1)) + 1
-            self.faults += [f"line {line}: {fault}" for fault in self._name_all(place[1])]
+        for number, line in enumerate(self._text.split("\n"), 1):
+            if naming := _NAMING.match(line):
+                self.faults += [f"line {number}: {fault}" for fault in self._name_all(naming[1])]
         del self.faults[_MOST_FAULTS:]
 
     @cached_property
@@ -140,26 +140,27 @@ class Columns:
             self.named[symbol, len(names)] = tuple(names)
 
 
-class OrderWarnings:
-    """Warns, once for each column, of names that are told where a rule compares numbers by their order."""
+class Orders:
+    """Names that are told where a rule compares numbers by their order, the first one of each column."""
 
     def __init__(self, columns: Columns) -> None:
-        self._columns = columns
+        self.columns = columns
         self._left = {(name, arguments + 1): dict(rules) for (name, arguments), rules in columns.by_order.items()}
 
-    def look_at(self, atoms: Iterable[Sequence[str | int]]) -> None:
-        """Looks at atoms that are to be told."""
+    def found(self, atoms: Iterable[Sequence[str | int]]) -> Iterator[str]:
+        """What is to be said of atoms that are to be told."""
         for atom in atoms if self._left else ():
-            places = self._left.get((str(atom[0]), len(atom)))
-            for place in [place for place in places or () if isinstance(atom[place], str)]:
-                self._warn(atom, place, self._left[str(atom[0]), len(atom)].pop(place))
+            rules = self._left.get((str(atom[0]), len(atom)), {})
+            for place in [place for place in tuple(rules) if isinstance(atom[place], str)]:
+                # another thread may have found it
+                if rule := rules.pop(place, None):
+                    yield self._words(atom, place, rule)
 
-    def _warn(self, atom: Sequence[str | int], place: int, rule: str) -> None:
-        argument = self._columns.argument(str(atom[0]), len(atom) - 1, place)
-        warn(
+    def _words(self, atom: Sequence[str | int], place: int, rule: str) -> str:
+        argument = self.columns.argument(str(atom[0]), len(atom) - 1, place)
+        return (
             f"{rule} compares {argument} of {atom[0]} by order, and {_shown(str(atom[place]))!r} is told there: "
-            "names have an order, one at all nodes, that means nothing, so tell numbers where it is to mean something",
-            OrderWarning,
+            "names have an order, one at all nodes, that means nothing, so tell numbers where it is to mean something"
         )
 
 

@@ -38,8 +38,8 @@ class Wanted(NamedTuple):
         return "and neither a whole number nor a name" if self.takes_names else "and not a whole number"
 
     def takes(self, argument: object) -> bool:
-        is_name = self.takes_names and isinstance(argument, str) and not _SURROGATE.search(argument)
-        return is_name or self.takes_any and argument is None
+        # text that can't be a name is told of where its number is made
+        return self.takes_names and isinstance(argument, str) or self.takes_any and argument is None
 
 
 def file_words(program: bytes) -> str | None:

@@ -22,7 +22,7 @@ from typing import Any, NamedTuple
 from unittest.mock import patch
 
 from browser import CHROMIUM, DRIVER, Browser
-from chrrep import Atom, ColumnsWarning, Id
+from chrrep import Atom, ColumnsWarning, Id, OrderWarning
 from chrrep.link import Batch, Heard, Member, PageUnusable, connect, join
 from chrrep.link.page import Page, behind, json_text, members_of, tables_of
 from chrrep.texts import LINE_LIMIT
@@ -217,6 +217,19 @@ class Requests(Served):
         self.assertEqual(member.show(), ())
         self.assertEqual(self.tell(page, " path(1,2,3), path(1,2,1) \n").status, 200)
         self.assertEqual(member.show(), (("path", 1, 2, 1),))
+
+    def test_names_where_a_rule_compares_by_order_are_told_of(self) -> None:
+        member, page = self.serve()
+        with self.assertWarns(OrderWarning):
+            said = self.tell(page, "path(oslo,rome,far), path(oslo,rome,near)").body.decode()
+        compares = "rule 1 (shorter) compares argument 3 of path by order, and 'far' is told there: names have an order"
+        self.assertTrue(said.startswith(f"told 1:1; {compares}, "), said)
+        self.assertEqual((said.count(";"), "\n" in said), (1, False))
+        self.assertEqual(self.tell(page, "path(oslo,rome,off)").body, b"told 1:2")
+        member.upgrade(f"% chr_columns path(from, to, km)\n{PATHS}")
+        with self.assertWarns(OrderWarning):
+            again = self.tell(page, "path(a,b,c)").body
+        self.assertIn(b"told 1:3; rule 1 (shorter) compares argument 3 (km) of ", again)
 
     def test_names_are_escaped(self) -> None:
         member, page = self.serve()

@@ -12,7 +12,7 @@ from itertools import chain
 from types import TracebackType
 from typing import NamedTuple, Self, TypeVar
 
-from ..columns import Columns, ColumnsWarning, OrderWarnings, warn
+from ..columns import Columns, ColumnsWarning, Orders, OrderWarning, warn
 from ..names import NameClash, Names, named_text, number_of, numbered
 from ..node import UNASKED, Timeout
 from ..refusals import BadLine, Full, NodeDied, Refused, RefusedProgram, Shape, WrongProcess
@@ -477,7 +477,8 @@ class Member:
         # there are names, or what is to be refused
         with self._in_words(operations):
             texts = self._asked([[numbered(atom) for atom in atoms] for atoms in operations])
-        self._order.look_at(atom for atoms in operations for atom in atoms)
+        for said in self._orders.found(atom for atoms in operations for atom in atoms):
+            warn(said, OrderWarning)
         for name in self._names.of(atom for atoms in operations for atom in atoms).values():
             self.link.check_name(name)
         return Admitted(texts, operations)
@@ -516,7 +517,7 @@ class Member:
     def _take_up(self, replica: Replica, state: State) -> None:
         self._replica, self._epoch, self._generation = replica, state.epoch, state.generation
         self._columns = replica.node.columns
-        self._order = OrderWarnings(self._columns)
+        self._orders = Orders(self._columns)
         self._late = None
         for fault in self._columns.faults:
             warn(f"the program names columns in vain: {fault}", ColumnsWarning)

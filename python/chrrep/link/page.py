@@ -22,6 +22,7 @@ from pathlib import Path
 from typing import Any, NamedTuple
 from urllib.parse import SplitResult, parse_qs, urlsplit
 
+from ..columns import Orders
 from ..names import NameClash, named_atoms_of, named_text
 from ..prompt import example_of, fault_words
 from ..refusals import ChrrepError, Refused
@@ -299,6 +300,7 @@ class Page:
 
     def __init__(self, member: Member, port: int) -> None:
         self.member = member
+        self._orders = Orders(member.columns)
         self.token = secrets.token_urlsafe(24)
         try:
             self._server = _Server((LOOPBACK, port), _Handler)
@@ -326,6 +328,15 @@ class Page:
         """Whether this page asks, or someone who is no browser and says of neither where the request comes from."""
         is_ours = origin is None or origin.startswith("http://") and self.is_host(origin.removeprefix("http://"))
         return is_ours and site in (None, *_SITES)
+
+    def tell(self, line: str) -> tuple[HTTPStatus, str]:
+        """Tells a line, and gives what is said of it, with what is first to be said of names in it."""
+        status, said = _told(self.member, line)
+        if status == HTTPStatus.OK:
+            if self._orders.columns is not self.member.columns:
+                self._orders = Orders(self.member.columns)
+            said = "; ".join([said, *self._orders.found(named_atoms_of(line.strip()))])
+        return status, said
 
     def close(self) -> None:
         """Serves the page no more. To close twice is no fault."""
@@ -383,7 +394,7 @@ class _Handler(BaseHTTPRequestHandler):
                 self._send(HTTPStatus.BAD_REQUEST, f"A line has 1 to {LINE_LIMIT} bytes, of UTF-8.")
                 self._drain()
             else:
-                self._send(*_told(self.server.page.member, line))
+                self._send(*self.server.page.tell(line))
 
     def send_error(self, code: int, message: str | None = None, explain: str | None = None) -> None:
         """Says what the base class finds wrong, with the headers of all answers."""
