@@ -27,7 +27,7 @@ from running import run, run_at_once  # noqa: E402
 
 HERE = Path(__file__).resolve().parent
 RUNS = ["test_texts", "test_commands", "test_runs", "test_model", "test_verdicts", "test_lines"]
-EXPLAINED = ["test_explanations", "test_pages"]
+EXPLAINED = ["test_explanations", "test_lines_told", "test_pages"]
 SHARED = ["test_workers"]
 READERS = ["test_documents"]
 TOOLS = ["test_more_edits", "test_believe", "test_running"]

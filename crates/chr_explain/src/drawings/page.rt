@@ -9,10 +9,9 @@ use crate::drawings::listing::push_listing;
 use crate::drawings::style::STYLE;
 use crate::drawings::ways_page::push_ways;
 use crate::drawings::ways_svg::push_ways_svg;
-use chr_diagnosis::{Diagnosis, Judged, Peak, Proposal};
+use chr_diagnosis::{Diagnosis, Peak};
 use chr_faults::{Names, TextFaults};
 use chr_read::Fault;
-use chr_sentences::told_text;
 use std::alloc::{AllocError, Global};
 use std::fmt::Write;
 
@@ -121,19 +120,17 @@ fn push_words(out: &mut String, told: &str) -> Result<(), AllocError> {
     out.push_str("</pre>\n</section>\n</main>\n</body>\n</html>\n")
 }
 
-/// What is to be told of a text, as a page.
-pub fn page_text(
+/// What is to be told of a text, in these words, as a page.
+pub(crate) fn page_text(
     alloc: Global,
     text: &[u8],
-    judged: &Judged,
-    proposals: &[Proposal],
+    diagnosis: &Diagnosis,
+    told: &str,
 ) -> Result<String, AllocError> {
-    let told = told_text(alloc, text, judged, proposals, true)?;
-    let diagnosis = &judged.diagnosis;
     let mut out = String::new(alloc);
-    push_head(&mut out, diagnosis, told.as_str())?;
+    push_head(&mut out, diagnosis, told)?;
     push_listing(alloc, &mut out, text, diagnosis)?;
     push_pictures(alloc, &mut out, text, diagnosis)?;
-    push_words(&mut out, told.as_str())?;
+    push_words(&mut out, told)?;
     Ok(out)
 }
