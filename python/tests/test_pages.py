@@ -26,6 +26,8 @@ HOSTILE = b"""% </pre><script>alert('x')</script> <mark> "quotes" &amp; & \x80\x
 THROW = b":- chr_constraint throw/0, head/0, tail/0. :- chr_weight throw/0 = 2. throw <=> head. throw <=> tail."
 SIGNS = ("<", "=<", ">", ">=", "=:=", "=\\=")
 WIDTHS = (1280, 360)
+RULES = re.compile(r"with this in place of rule \d+:\n((?:  .*\n)*  .*)\n")
+"""Rules that are proposed."""
 ROW = 24
 CHARACTER = 8
 """How high a row of a drawing is, and how wide a character."""
@@ -55,8 +57,10 @@ class Page(HTMLParser):
         self.faults: list[str] = []
         self.texts: dict[str, list[str]] = {}
         """The text of each outermost element of a name, in order."""
+        self.kinds: list[str] = []
+        """The class of each block of text, in order."""
         self.words: list[str] = []
-        """The parts of the text in drawings."""
+        """The parts of the text in drawings, and in the steps of both ways."""
         self.boxes: list[tuple[int, int]] = []
         """The width and the height of each drawing."""
         self.marks: list[Mark] = []
@@ -72,6 +76,8 @@ class Page(HTMLParser):
         if tag == "svg":
             width, height = dict(attrs)["viewbox"].split()[2:]  # type: ignore[union-attr]
             self.boxes.append((int(width), int(height)))
+        if tag == "pre":
+            self.kinds.append(dict(attrs)["class"] or "")
         if tag == "text":
             given = dict(attrs)
             self.drawn = Mark(int(given["x"] or ""), int(given["y"] or ""))
@@ -91,12 +97,16 @@ class Page(HTMLParser):
             self.faults.append(f"{tag} ends at {self.getpos()}")
 
     def handle_data(self, data: str) -> None:
-        for tag in set(self.path):
+        for tag in {"em"} if "em" in self.path else set(self.path):
             self.texts[tag][-1] += data
-        if "svg" in self.path:
+        if {"svg", "li"}.intersection(self.path):
             self.words.append(data)
         if self.path[-1:] == ["text"]:
             self.drawn.text += data
+
+    def blocks(self, kind: str) -> list[str]:
+        """The blocks of text of a class."""
+        return [text for text, of in zip(self.texts["pre"], self.kinds, strict=True) if of == kind]
 
 
 COMMANDS = re.compile(b"^---\n", re.MULTILINE)
@@ -149,9 +159,10 @@ class Pages(unittest.TestCase):
 
     def check_whole(self, page: Page, text: bytes, *options: str) -> None:
         """The program stands in the page, and all that is told of it."""
-        listing, told = page.texts["pre"]
-        self.assertEqual(listing, shown(text))
-        self.assertEqual(told, run("explain", text, "--all", *options)[1])
+        told = run("explain", text, "--all", *options)[1]
+        self.assertEqual(page.blocks("listing"), [shown(text)])
+        self.assertEqual(page.blocks("told"), [told])
+        self.assertEqual(page.blocks("change"), [rules.replace("\n  ", "\n")[2:] for rules in RULES.findall(told)])
         self.assertEqual(page.texts["h1"], [told.partition("\n")[0]])
         verdict = re.match(r"accepted|refused \d+", run("check", text, *judging(text, *options))[1])
         assert verdict
@@ -202,22 +213,59 @@ class Pages(unittest.TestCase):
                 told = run("explain", text, "--html")[1]
                 self.assertEqual(re.findall("<mark>(.*?)</mark>", told), [html.escape(part) for part in wanted])
 
-    def test_both_ends_are_drawn(self) -> None:
-        """Each end stands in the drawing, and so does each step."""
+    def test_both_ways_are_shown(self) -> None:
+        """Of the case with the smallest store that is told each step is shown, and each end."""
         found = 0
         for file in sorted(TEXTS.glob("*.chr")):
             text = file.read_bytes()
-            # the first case is drawn, and the smallest one is told in words alone
-            told = run("explain", text)[1].partition("The smallest store")[0]
+            told = run("explain", text)[1]
             if told.startswith("refused 21"):
                 found += 1
+                case = told.rpartition("The smallest store")[2]
                 with self.subTest(file.name):
                     page = self.page(text)
-                    self.assertLessEqual(set(re.findall("^  end: (.*)$", told, re.M)), set(page.words))
-                    steps = re.findall("^  \\d+\\. (.*), and leaves ", told, re.M)
-                    self.assertEqual(len([tag for tag in page.tags if tag == "li"]), len(steps))
+                    self.assertLessEqual(set(re.findall("^  end: (.*)$", case, re.M)), set(page.words))
+                    steps = re.findall("^  \\d+\\. (.*), and leaves ", case, re.M)
+                    self.assertEqual(page.tags.count("li"), len(steps))
                     self.assertLessEqual(set(steps), set(page.words))
         self.assertGreater(found, 20)
+
+    def test_a_case_is_shown_once(self) -> None:
+        """What the page has shown already is to be opened as text."""
+        for name, is_shut in (("pairs", True), ("several", True), ("coins", False), ("swaps", False)):
+            with self.subTest(name):
+                page = self.page((TEXTS / f"{name}.chr").read_bytes())
+                self.assertEqual(page.texts.get("summary", []), ["As text"] * is_shut)
+                self.assertEqual("".join(page.texts.get("details", [])).count(page.blocks("told")[0]), int(is_shut))
+
+    def test_faults_stand_below_their_lines(self) -> None:
+        text = (TEXTS / "several.chr").read_bytes()
+        told = run("explain", text, "--html")[1]
+        lines = told.partition("</pre>")[0].split('<span class="line">')
+        notes = {line: note for line, part in enumerate(lines) for note in re.findall("<em>(.*?)</em>", part)}
+        self.assertEqual(
+            notes,
+            {
+                2: "this clause is empty<br>remove the full stop, or write a clause before it",
+                3: "this is a propagation rule, and these are not read<br>rules take facts away, and none only adds: "
+                "see &#39;What can&#39;t be had&#39; in docs/GUIDE.md",
+                4: "`a/1` is declared already<br>declare each name once for each number of arguments",
+                5: "`b/0` is not declared; declared are `a/1`<br>"
+                "clause 4, which is bad, would declare it: mend that one first",
+                6: "`Z` stands in no head<br>write it in a head too",
+                7: "this clause has no full stop<br>end it by a full stop",
+            },
+        )
+
+    def test_proposed_changes_are_marked(self) -> None:
+        """The rules that are told, and in them what the rule before had not."""
+        rule = "best @ seen(P,T,A) \\ seen(P,U,B) <=> {} | true."
+        text = f":- chr_constraint seen/3.\n{rule.format('U =< T')}\n".encode()
+        self.check_whole(self.page(text), text)
+        marked = [html.unescape(it) for it in re.findall("<mark>(.*?)</mark>", run("explain", text, "--html")[1])]
+        self.assertEqual(marked[0], rule.format("U =< T"))
+        self.assertIn("<", marked[1:])
+        self.assertTrue(any(it.startswith("seen(P,") and it.endswith(" | true.") for it in marked[1:]), marked)
 
     def test_a_long_side(self) -> None:
         """Of a side of 137 steps the first ones are drawn, and the end."""
@@ -303,8 +351,8 @@ class Browsers(unittest.TestCase):
         if folder := os.environ.get("CHRREP_PICTURES"):
             browser.picture(Path(folder) / f"explain-{file.stem}-{width}.png")
         self.assertLessEqual(browser.run("return document.documentElement.scrollWidth"), width)
-        drawings = "return [...document.querySelectorAll('svg')].map(svg => svg.getBoundingClientRect().right)"
-        self.assertTrue(all(right <= width for right in browser.run(drawings)))
+        self.assertEqual(browser.run(SCALED), [])
+        self.assertEqual(browser.run(CUT), [])
         ways = browser.run(PLACES)
         if ways:
             (left, top, bottom), (right, other_top, _) = ways
@@ -313,6 +361,15 @@ class Browsers(unittest.TestCase):
             else:
                 self.assertEqual((left, bottom <= other_top), (right, True))
 
+
+SCALED = """return [...document.querySelectorAll('svg')].map(svg => svg.getBoundingClientRect().width)
+    .filter((width, at) => width != document.querySelectorAll('svg')[at].viewBox.baseVal.width)"""
+"""Drawings that are not as large as they are made, so that their text would be smaller."""
+
+CUT = """return [...document.querySelectorAll('.store, .step, .change, .told, em, figure, .listing')]
+    .filter(it => it.getBoundingClientRect().right > innerWidth || !['FIGURE', 'PRE'].includes(it.tagName)
+        && it.scrollWidth > it.clientWidth).map(it => it.textContent)"""
+"""Parts that reach beyond the window, or text that has too little room."""
 
 PLACES = """return [...document.querySelectorAll('.ways > section')]
     .map(way => way.getBoundingClientRect()).map(box => [box.left, box.top, box.bottom])"""

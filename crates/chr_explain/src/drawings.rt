@@ -1,8 +1,11 @@
 //! A diagnosis as a drawing, and as a page.
 mod cards;
+mod case_page;
 mod census_graph;
+mod changes_page;
 mod columns_graph;
 mod cycle_graph;
+mod difference;
 mod drawing;
 mod graph;
 mod graph_drawing;
@@ -17,8 +20,7 @@ mod page;
 mod peak_drawing;
 mod style;
 mod svg;
-mod ways_page;
-mod ways_svg;
+mod told_parts;
 
 pub(crate) use drawing::drawn_text;
 pub(crate) use page::page_text;

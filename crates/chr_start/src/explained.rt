@@ -38,8 +38,14 @@ fn status_of(verdict: Verdict) -> Status
     }
 }
 
-/// Reads all of the input, and writes the explanation of its program text, by sorted cases where `wide` or where there
-/// are too many joint ones: of a text that is too long no more is held than tells that it is.
+/// What comes behind the program text of an input: nothing, or the line `---` and command lines.
+fn behind_text(input: &[u8]) -> &[u8] {
+    input.get(program_text(input).len()..).unwrap_or(&[])
+}
+
+/// Reads all of the input, and writes the explanation of its program text and of its command lines, by sorted cases
+/// where `wide` or where there are too many joint ones: of a text that is too long no more is held than tells that it
+/// is.
 ///
 /// # Errors
 ///
@@ -63,7 +69,14 @@ pub(crate) fn explain_input<R: Read, W: Write>(
     ensures unanswered { IsErrOf result Memory → streams.new.writer ≡ streams.old.writer }
 {
     let input = read_input(rt, alloc, &mut streams.reader)?;
-    let explanation = explain(rt, alloc, program_text(&input), wide, manner_of(style))?;
+    let explanation = explain(
+        rt,
+        alloc,
+        program_text(&input),
+        behind_text(&input),
+        wide,
+        manner_of(style),
+    )?;
     write_whole(&mut streams.writer, explanation.text.as_bytes())?;
     Ok(status_of(explanation.verdict))
 }

@@ -3,7 +3,7 @@
 use chr_base::bag::Bag;
 use chr_base::derivation::{Derivation, Step};
 use chr_base::text::store_text;
-use chr_diagnosis::{NamedProgram, Peak, told_rule};
+use chr_diagnosis::{NamedProgram, Peak, Ways, told_rule};
 use chr_faults::Names;
 use std::alloc::{AllocError, Global};
 
@@ -65,24 +65,27 @@ fn way_cards(
     Ok(cards)
 }
 
-/// Both ways of a case that fails.
+/// The case that is shown: the one with the smallest store that is known.
+pub(crate) fn shown_case(peak: &Peak) -> &Ways {
+    match &peak.smaller {
+        Some(smaller) => smaller,
+        None => &peak.first,
+    }
+}
+
+/// Both ways of the case that is shown.
 pub(crate) fn cards_of(alloc: Global, names: &Names, peak: &Peak) -> Result<Cards, AllocError> {
     let program = peak.weighed.program();
     let source = NamedProgram { program, names };
-    let failure = &peak.first.failure;
+    let ways = shown_case(peak);
+    let failure = &ways.failure;
     let start = store_text(alloc, program, &failure.left.start)?;
-    let left = way_cards(
-        alloc,
-        source,
-        &failure.left,
-        &peak.first.left,
-        &failure.left_end,
-    )?;
+    let left = way_cards(alloc, source, &failure.left, &ways.left, &failure.left_end)?;
     let right = way_cards(
         alloc,
         source,
         &failure.right,
-        &peak.first.right,
+        &ways.right,
         &failure.right_end,
     )?;
     Ok(Cards { start, left, right })

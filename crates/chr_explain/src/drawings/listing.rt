@@ -1,6 +1,8 @@
 //! The text of a program on a page, with marks at its faulty places.
 
-use crate::drawings::html::push_html_char;
+use crate::drawings::cards::shown_case;
+use crate::drawings::html::{push_html, push_html_char};
+use crate::drawings::told_parts::{Note, notes_in};
 use chr_diagnosis::Diagnosis;
 use chr_faults::{Span, TextFaults, bad_spans, rule_span, shown};
 use chr_overlaps::Overlap;
@@ -41,7 +43,7 @@ fn spans_of(alloc: Global, text: &[u8], diagnosis: &Diagnosis) -> Result<Vec<Spa
     match diagnosis {
         Diagnosis::Text(faults) => fault_spans(alloc, text, faults),
         Diagnosis::NotLowered(told) => rule_spans(alloc, text, told.fault.rule, told.fault.rule),
-        Diagnosis::Fails(peak) => overlap_spans(alloc, text, &peak.first.failure.overlap),
+        Diagnosis::Fails(peak) => overlap_spans(alloc, text, &shown_case(peak).failure.overlap),
         Diagnosis::TooManyCombinations(throng) => {
             overlap_spans(alloc, text, &throng.too_many.overlap)
         }
@@ -63,37 +65,70 @@ fn push_turn(out: &mut String, was_in: bool, is_in: bool) -> Result<(), AllocErr
     })
 }
 
-/// Adds a byte of the text. Each line is an element, so that it gets its number.
-fn push_byte(out: &mut String, byte: u8) -> Result<(), AllocError> {
-    if byte == b'\n' {
-        out.push_str("</span>\n<span class=\"line\">")
-    } else {
-        push_html_char(out, shown(byte))
+/// Adds what is told of the line of this number.
+fn push_notes(out: &mut String, notes: &[Note<'_>], line: usize) -> Result<(), AllocError> {
+    for note in notes.iter().filter(|note| note.line == line) {
+        out.push_str("<em>")?;
+        for (number, words) in note.words.iter().enumerate() {
+            out.push_str(if number == 0 { "" } else { "<br>" })?;
+            push_html(out, words)?;
+        }
+        out.push_str("</em>")?;
     }
+    Ok(())
 }
 
-/// Adds the text with marks at these places. A mark ends with its line, and begins again with the next one.
-fn push_marked(out: &mut String, text: &[u8], spans: &[Span]) -> Result<(), AllocError> {
+/// Adds the text with marks at these places. Each line is an element, so that it gets its number, and has what is told
+/// of it below. A mark ends with its line, and begins again with the next one.
+fn push_marked(
+    out: &mut String,
+    text: &[u8],
+    spans: &[Span],
+    notes: &[Note<'_>],
+) -> Result<(), AllocError> {
     let mut was_in = false;
+    let mut line: usize = 1;
     for (at, byte) in text.iter().enumerate() {
         let is_in = *byte != b'\n' && is_marked(spans, at);
         push_turn(out, was_in, is_in)?;
-        push_byte(out, *byte)?;
+        if *byte == b'\n' {
+            out.push_str("</span>\n")?;
+            push_notes(out, notes, line)?;
+            out.push_str("<span class=\"line\">")?;
+            line = line.saturating_add(1);
+        } else {
+            push_html_char(out, shown(*byte))?;
+        }
         was_in = is_in;
     }
-    push_turn(out, was_in, false)
+    push_turn(out, was_in, false)?;
+    push_notes(out, notes, line)
 }
 
-/// Adds the text of a program with marks at its faulty places.
+/// What is told of the lines of a text that is no program.
+fn notes_of<'t>(
+    alloc: Global,
+    diagnosis: &Diagnosis,
+    told: &'t str,
+) -> Result<Vec<Note<'t>>, AllocError> {
+    match diagnosis {
+        Diagnosis::Text(_) => notes_in(alloc, told),
+        _ => Ok(Vec::new(alloc)),
+    }
+}
+
+/// Adds the text of a program with marks at its faulty places, and below each line what is told of it.
 pub(crate) fn push_listing(
     alloc: Global,
     out: &mut String,
     text: &[u8],
     diagnosis: &Diagnosis,
+    told: &str,
 ) -> Result<(), AllocError> {
     let spans = spans_of(alloc, text, diagnosis)?;
+    let notes = notes_of(alloc, diagnosis, told)?;
     out.push_str("<section>\n<h2>The program</h2>\n")?;
     out.push_str("<pre class=\"listing\" tabindex=\"0\"><span class=\"line\">")?;
-    push_marked(out, text, &spans)?;
+    push_marked(out, text, &spans, &notes)?;
     out.push_str("</span></pre>\n</section>\n")
 }

@@ -1,18 +1,17 @@
 //! What is to be told of a text, as a page in HTML that stands alone.
 
-use crate::drawings::cards::{Cards, cards_of};
+use crate::drawings::cards::cards_of;
+use crate::drawings::case_page::push_case;
+use crate::drawings::changes_page::push_changes;
 use crate::drawings::graph::{Graph, Meaning};
 use crate::drawings::graph_svg::push_graph_svg;
 use crate::drawings::graphs::graph_of;
 use crate::drawings::html::{push_first_line, push_html};
 use crate::drawings::listing::push_listing;
 use crate::drawings::style::STYLE;
-use crate::drawings::ways_page::push_ways;
-use crate::drawings::ways_svg::push_ways_svg;
-use chr_diagnosis::{Diagnosis, Judged, Peak, Proposal};
+use chr_diagnosis::{Diagnosis, Peak, Proposal};
 use chr_faults::{Names, TextFaults};
 use chr_read::Fault;
-use chr_sentences::told_text;
 use std::alloc::{AllocError, Global};
 use std::fmt::Write;
 
@@ -38,7 +37,28 @@ fn push_verdict(out: &mut String, diagnosis: &Diagnosis) -> Result<(), AllocErro
     }
 }
 
-/// Adds what stands before the program: the verdict, the style and the first line of what is told.
+/// What the verdict means to whoever runs replicas of the program.
+fn meaning_of(diagnosis: &Diagnosis) -> &'static str {
+    match diagnosis {
+        Diagnosis::Text(_) => {
+            "The text is no program yet. What is wrong stands below each line, with what would be right."
+        }
+        Diagnosis::NotLowered(_) => {
+            "A rule has to take away more than it leaves, so that the rules come to an end."
+        }
+        Diagnosis::Fails(_) => {
+            "Replicas that hold the same facts, and apply these rules in another order, disagree for ever."
+        }
+        Diagnosis::TooManyCombinations(_) => {
+            "Whether replicas agree was not decided: the marked rules compare too many values at once."
+        }
+        Diagnosis::Accepted(_) => {
+            "Replicas that hold the same facts show the same store, in whatever order the rules are applied."
+        }
+    }
+}
+
+/// Adds what stands before the program: the verdict, the style, the first line of what is told, and what it means.
 fn push_head(out: &mut String, diagnosis: &Diagnosis, told: &str) -> Result<(), AllocError> {
     out.push_str("<!DOCTYPE html>\n<html lang=\"en\">\n<head>\n<meta charset=\"utf-8\">\n")?;
     out.push_str("<meta name=\"viewport\" content=\"width=device-width, initial-scale=1\">\n")?;
@@ -48,7 +68,9 @@ fn push_head(out: &mut String, diagnosis: &Diagnosis, told: &str) -> Result<(), 
     out.push_str(STYLE)?;
     out.push_str("</head>\n<body>\n<header>\n<h1>")?;
     push_first_line(out, told)?;
-    out.push_str("</h1>\n</header>\n<main>\n")
+    out.push_str("</h1>\n<p>")?;
+    push_html(out, meaning_of(diagnosis))?;
+    out.push_str("</p>\n</header>\n<main>\n")
 }
 
 /// What the drawing shows.
@@ -72,26 +94,19 @@ fn push_graph_figure(alloc: Global, out: &mut String, graph: &Graph) -> Result<(
     out.push_str("</figcaption>\n</figure>\n</section>\n")
 }
 
-/// Adds a drawing of both ways.
-fn push_ways_figure(alloc: Global, out: &mut String, ways: &Cards) -> Result<(), AllocError> {
-    out.push_str("<section>\n<h2>Drawing</h2>\n<figure>\n")?;
-    push_ways_svg(alloc, out, ways)?;
-    out.push_str(
-        "<figcaption>The store, and below it both ways to their ends, which have two lines round them.",
-    )?;
-    out.push_str("</figcaption>\n</figure>\n</section>\n")
-}
-
-/// Adds both ways of a case that fails, step by step and as a drawing.
+/// Adds both ways of a case that fails, and what would be right.
 fn push_peak(
     alloc: Global,
     out: &mut String,
-    names: &Names,
+    text: &[u8],
     peak: &Peak,
+    proposals: &[Proposal],
+    told: &str,
 ) -> Result<(), AllocError> {
-    let ways = cards_of(alloc, names, peak)?;
-    push_ways(out, &ways)?;
-    push_ways_figure(alloc, out, &ways)
+    let names = Names::of(alloc, text)?;
+    let ways = cards_of(alloc, &names, peak)?;
+    push_case(out, &ways)?;
+    push_changes(alloc, out, text, proposals, told)
 }
 
 /// Adds what is drawn of the text, where something is.
@@ -102,9 +117,6 @@ fn push_pictures(
     diagnosis: &Diagnosis,
 ) -> Result<(), AllocError> {
     let names = Names::of(alloc, text)?;
-    if let Diagnosis::Fails(peak) = diagnosis {
-        return push_peak(alloc, out, &names, peak);
-    }
     let Some(graph) = graph_of(alloc, &names, diagnosis)? else {
         return Ok(());
     };
@@ -116,24 +128,40 @@ fn push_pictures(
 
 /// Adds all that is told, in words.
 fn push_words(out: &mut String, told: &str) -> Result<(), AllocError> {
-    out.push_str("<section>\n<h2>In words</h2>\n<pre tabindex=\"0\">")?;
+    out.push_str("<section>\n<h2>In words</h2>\n<pre class=\"told\" tabindex=\"0\">")?;
     push_html(out, told)?;
-    out.push_str("</pre>\n</section>\n</main>\n</body>\n</html>\n")
+    out.push_str("</pre>\n</section>\n")
 }
 
-/// What is to be told of a text, as a page.
-pub fn page_text(
+/// Adds the same, to be opened: the page has shown it.
+fn push_shut_words(out: &mut String, told: &str) -> Result<(), AllocError> {
+    out.push_str("<details>\n<summary>As text</summary>\n<pre class=\"told\" tabindex=\"0\">")?;
+    push_html(out, told)?;
+    out.push_str("</pre>\n</details>\n")
+}
+
+/// What is to be told of a text, in these words, as a page.
+pub(crate) fn page_text(
     alloc: Global,
     text: &[u8],
-    judged: &Judged,
+    diagnosis: &Diagnosis,
     proposals: &[Proposal],
+    told: &str,
 ) -> Result<String, AllocError> {
-    let told = told_text(alloc, text, judged, proposals, true)?;
-    let diagnosis = &judged.diagnosis;
     let mut out = String::new(alloc);
-    push_head(&mut out, diagnosis, told.as_str())?;
-    push_listing(alloc, &mut out, text, diagnosis)?;
-    push_pictures(alloc, &mut out, text, diagnosis)?;
-    push_words(&mut out, told.as_str())?;
+    push_head(&mut out, diagnosis, told)?;
+    push_listing(alloc, &mut out, text, diagnosis, told)?;
+    match diagnosis {
+        Diagnosis::Text(_) => push_shut_words(&mut out, told)?,
+        Diagnosis::Fails(peak) => {
+            push_peak(alloc, &mut out, text, peak, proposals, told)?;
+            push_shut_words(&mut out, told)?;
+        }
+        _ => {
+            push_words(&mut out, told)?;
+            push_pictures(alloc, &mut out, text, diagnosis)?;
+        }
+    }
+    out.push_str("</main>\n</body>\n</html>\n")?;
     Ok(out)
 }

@@ -13,7 +13,7 @@ body { margin: 0 auto; max-width: 80rem; padding: 1rem; background: var(--back);
   font: 1rem/1.5 system-ui, sans-serif; overflow-wrap: anywhere; }
 h1 { font-size: 1.4rem; }
 h2 { font-size: 1.15rem; margin: 1.5rem 0 .5rem; }
-h3 { font-size: 1rem; margin: 0 0 .5rem; }
+h3 { font-size: 1rem; margin: .75rem 0 .5rem; }
 pre, code, text { font-family: ui-monospace, Menlo, Consolas, 'Liberation Mono', monospace; font-size: 13px; }
 pre { margin: 0; padding: .75rem; overflow-x: auto; background: var(--card); border-radius: .4rem; }
 mark { background: var(--mark); color: var(--mark-ink); }
@@ -22,15 +22,24 @@ mark { background: var(--mark); color: var(--mark-ink); }
 .line::before { content: counter(line); display: inline-block; width: 3ch; margin-right: 1.5ch; text-align: right;
   color: var(--soft); }
 .line:last-child:empty { display: none; }
-.ways { display: grid; grid-template-columns: minmax(0, 1fr) minmax(0, 1fr); gap: 1rem; }
+.ways { display: grid; grid-template-columns: minmax(0, 1fr) minmax(0, 1fr); gap: 1rem; margin: .75rem 0; }
 @media (max-width: 700px) { .ways { grid-template-columns: minmax(0, 1fr); } }
-ol { margin: 0; padding: 0 0 0 1.5rem; }
-li { margin: 0 0 .5rem; padding: .4rem .6rem; background: var(--card); border-radius: .4rem; }
-li.end { border: 3px double var(--end); }
-li.end strong { color: var(--end); }
-figure { margin: 0; }
+ol { margin: 0; padding: 0; list-style: none; }
+p { margin: .5rem 0; }
+.store { margin: 0; padding: .4rem .6rem; background: var(--card); border: 1px solid var(--line);
+  border-radius: .4rem; }
+.store.end { border: 3px double var(--end); }
+.store.end strong { color: var(--end); }
+.step { margin: 0; padding: .4rem .6rem .4rem 1.6rem; position: relative; }
+.step::before { content: '↓'; position: absolute; left: .5rem; color: var(--soft); }
+.listing em { display: block; margin: .1rem 0 .5rem 4.5ch; padding: .3rem .6rem; border-left: 3px solid var(--end);
+  font: .95rem/1.4 system-ui, sans-serif; white-space: normal; }
+.listing, .told, .change { white-space: pre-wrap; }
+details { margin: 1.5rem 0; }
+summary { cursor: pointer; }
+figure { margin: 0; overflow-x: auto; }
 figcaption { color: var(--soft); }
-svg { display: block; max-width: 100%; height: auto; }
+svg { display: block; }
 svg .box { fill: var(--card); stroke: var(--line); }
 svg .edge { fill: none; stroke: var(--line); stroke-width: 1.5; }
 svg .tip { fill: var(--line); }

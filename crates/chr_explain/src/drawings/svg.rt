@@ -1,4 +1,4 @@
-//! Boxes, arrows and text of drawings in SVG. All lengths are whole units, of which a character takes 8.
+//! Boxes and text of drawings in SVG. All lengths are whole units, of which a character takes 8.
 
 use crate::drawings::html::{push_html, push_html_char};
 use crate::drawings::limits::MAX_SVG_CHARACTERS;
@@ -78,30 +78,4 @@ pub(crate) fn push_frame(out: &mut String, frame: Frame) -> Result<(), AllocErro
         "<rect class=\"box\" x=\"{}\" y=\"{}\" width=\"{}\" height=\"{}\" rx=\"3\"/>\n",
         frame.x, frame.y, frame.width, frame.height
     )?)
-}
-
-/// The box within another one.
-fn inner(frame: Frame) -> Frame {
-    Frame {
-        x: frame.x.saturating_add(3),
-        y: frame.y.saturating_add(3),
-        width: frame.width.saturating_sub(6),
-        height: frame.height.saturating_sub(6),
-    }
-}
-
-/// Adds a box with a text in it. An end has two lines round it.
-pub(crate) fn push_box(
-    out: &mut String,
-    frame: Frame,
-    text: &str,
-    is_end: bool,
-) -> Result<(), AllocError> {
-    push_frame(out, frame)?;
-    if is_end {
-        push_frame(out, inner(frame))?;
-    }
-    let x = frame.x.saturating_add(MARGIN);
-    let y = frame.y.saturating_add(frame.height / 2).saturating_add(4);
-    push_svg_text(out, x, y, "word", text)
 }

@@ -1,0 +1,94 @@
+//! What would be right where a case fails, on a page: in words, and as rules with which the program is accepted.
+
+use crate::drawings::difference::changed_part;
+use crate::drawings::html::{push_html, push_html_char};
+use crate::drawings::told_parts::{advice_in, kept_in};
+use chr_diagnosis::Proposal;
+use chr_faults::Span;
+use std::alloc::{AllocError, Global};
+use std::fmt::Write;
+
+/// Adds lines, each as a paragraph.
+fn push_paragraphs(out: &mut String, lines: &[&str]) -> Result<(), AllocError> {
+    for line in lines {
+        out.push_str("<p>")?;
+        push_html(out, line)?;
+        out.push_str("</p>\n")?;
+    }
+    Ok(())
+}
+
+/// Adds a rule, with a mark at the part that is new.
+fn push_marked(out: &mut String, rule: &str, part: Span) -> Result<(), AllocError> {
+    for (at, c) in rule.chars().enumerate() {
+        if at == part.from && part.from < part.to {
+            out.push_str("<mark>")?;
+        }
+        push_html_char(out, c)?;
+        if at.saturating_add(1) == part.to && part.from < part.to {
+            out.push_str("</mark>")?;
+        }
+    }
+    Ok(())
+}
+
+/// Adds proposed rules, with marks: the first one stands in place of the rule before, and each other one is new.
+fn push_rules(
+    alloc: Global,
+    out: &mut String,
+    before: &[u8],
+    rules: &str,
+) -> Result<(), AllocError> {
+    for (number, rule) in rules.lines().enumerate() {
+        out.push_str(if number == 0 { "" } else { "\n" })?;
+        let all = Span {
+            from: 0,
+            to: rule.len(),
+        };
+        let part = if number == 0 {
+            changed_part(alloc, before, rule.as_bytes())?
+        } else {
+            Some(all)
+        };
+        push_marked(out, rule, part.unwrap_or(Span { from: 0, to: 0 }))?;
+    }
+    Ok(())
+}
+
+/// Adds one proposal, and what is told of it.
+fn push_change(
+    alloc: Global,
+    out: &mut String,
+    text: &[u8],
+    proposal: &Proposal,
+    kept: &[&str],
+) -> Result<(), AllocError> {
+    write!(
+        out,
+        "<h3>Accepted with this in place of rule {}</h3>\n",
+        proposal.rule
+    )?;
+    let before = text.get(proposal.from..proposal.to).unwrap_or(&[]);
+    out.push_str("<pre class=\"change\" tabindex=\"0\">")?;
+    push_rules(alloc, out, before, proposal.rules.as_str())?;
+    out.push_str("</pre>\n")?;
+    push_paragraphs(out, kept)
+}
+
+/// Adds what would be right.
+pub(crate) fn push_changes(
+    alloc: Global,
+    out: &mut String,
+    text: &[u8],
+    proposals: &[Proposal],
+    told: &str,
+) -> Result<(), AllocError> {
+    out.push_str("<section>\n<h2>What would be right</h2>\n")?;
+    let advice = advice_in(alloc, told)?;
+    push_paragraphs(out, &advice)?;
+    for (number, proposal) in proposals.iter().enumerate() {
+        let kept = kept_in(alloc, told, number)?;
+        push_change(alloc, out, text, proposal, &kept)?;
+    }
+    out.push_str("</section>\n")
+}

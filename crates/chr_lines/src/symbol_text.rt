@@ -1,0 +1,58 @@
+//! What is wrong with an atom that a program doesn't declare, in sentences.
+
+use crate::json_text::push_bytes;
+use crate::limits::MAX_TOLD_DECLARED;
+use crate::mistake::Undeclared;
+use chr_base::atom::SymbolId;
+use chr_base::program::Program;
+use std::alloc::AllocError;
+use std::fmt::Write;
+
+/// Adds a name with a number of arguments.
+fn push_symbol(out: &mut String, name: &str, arity: usize) -> Result<(), AllocError> {
+    out.push_str("`")?;
+    push_bytes(out, name.as_bytes())?;
+    Ok(write!(out, "/{arity}`")?)
+}
+
+/// Whether the program declares a symbol of this name.
+fn declares_name(program: &Program, name: &str) -> bool {
+    (0..program.symbols()).any(|number| program.name_of(SymbolId(number as u16)) == name)
+}
+
+/// Adds declared symbols, the first `MAX_TOLD_DECLARED`: those of the atom's name where there are some, else all.
+fn push_declared(out: &mut String, program: &Program, it: &Undeclared) -> Result<(), AllocError> {
+    let is_named = declares_name(program, it.name.as_str());
+    let mut count: usize = 0;
+    for number in 0..program.symbols() {
+        let symbol = SymbolId(number as u16);
+        let name = program.name_of(symbol);
+        if is_named && name != it.name.as_str() {
+            continue;
+        }
+        count = count.saturating_add(1);
+        if count <= MAX_TOLD_DECLARED {
+            out.push_str(if count == 1 { " " } else { ", " })?;
+            push_symbol(out, name, program.arity_of(symbol))?;
+        }
+    }
+    out.push_str(if count > MAX_TOLD_DECLARED {
+        ", .."
+    } else {
+        ""
+    })
+}
+
+/// Tells that the program doesn't declare an atom.
+pub(crate) fn push_undeclared(
+    out: &mut String,
+    program: &Program,
+    it: &Undeclared,
+) -> Result<(), AllocError> {
+    push_symbol(out, it.name.as_str(), it.arity)?;
+    if program.symbols() == 0 {
+        return out.push_str(" is not declared, and nothing else is");
+    }
+    out.push_str(" is not declared; declared are")?;
+    push_declared(out, program, it)
+}
