@@ -453,7 +453,7 @@ class RedisLink(Link):
         return [self._key(name) for name in names]
 
     def _run(self, script: str, keys: list[str], words: Sequence[object]) -> Any:
-        return self._scripts[script](keys, words)
+        return self._scripts[script](keys, words, self._engine)
 
     def _ask(self, call: Callable[[], T]) -> T:
         """The call's result, tried again while Redis is away."""
@@ -464,8 +464,9 @@ class RedisLink(Link):
         except ChrrepError:
             raise
         except BaseException:
-            # interrupted between a question and its answer, which the next would be given
-            self._engine.connection_pool.disconnect()
+            # interrupted between a question and its answer, which the next would be given: others go on by other
+            # connections, and those that were in use end with their calls
+            self._engine = self._client(self._answer_seconds)
             raise
 
     def _said(self, call: Callable[[], Any]) -> Any:
