@@ -6,5 +6,5 @@ mod LeaseLists
 mod PoolRanks
 mod PartsCut
 mod States
-mod RestedTells
+pub mod RestedTells
 pub mod Outcomes

@@ -1,5 +1,5 @@
 -- The statements of the laws of replicas.
-use Rattle.std.specs.Prelude.{◌≡◌, ℕ, List}
+use Rattle.std.specs.Prelude.{◌≡◌, ℕ, List, Option}
 use Rattle.chr_base.specs.declared.program.Program.{Program}
 use Rattle.chr_base.specs.declared.derivation.Step.{Step as StepValue}
 use Rattle.chr_base.specs.Stores.{Store}
@@ -12,7 +12,7 @@ use Rattle.chr_confluence.specs.Confluence.{Confluent}
 use Rattle.chr_ops.specs.Operations.{Operation, told_store}
 use Rattle.chr_replica.specs.Replicas.{Replica, first, IsSound, IsSettled}
 use Rattle.chr_replica.specs.Replicas.{Tells, Merges, Steps, Takes, TakesParts, Puts, Recalls, Settles}
-use Rattle.chr_replica.specs.Replicas.{TellsRested, TellsLeased, TellsLeasedWith}
+use Rattle.chr_replica.specs.Replicas.{TellsRested}
 
 -- the replica that was told nothing is sound
 abbrev pub FirstIsSound : Type 0
@@ -48,17 +48,9 @@ abbrev pub SettleKeeps : Type 0
 SettleKeeps = (p : Program) (n : ℕ) → KeepsSound p (λ s t. Settles p s n t)
 
 abbrev pub TellRestedKeeps : Type 0
-TellRestedKeeps = (p : Program) (ops : List Operation) → KeepsSound p (λ s t. TellsRested p s ops t)
-
-abbrev pub TellLeasedKeeps : Type 0
-TellLeasedKeeps =
-    (p : Program) (ops : List Operation) (part : Store) (number : ℕ)
-    → KeepsSound p (λ s t. TellsLeased p s ops part number t)
-
-abbrev pub TellLeasedWithKeeps : Type 0
-TellLeasedWithKeeps =
-    (p : Program) (out : ℕ) (ops : List Operation) (part : Store) (number : ℕ)
-    → KeepsSound p (λ s t. TellsLeasedWith p s out ops part number t)
+TellRestedKeeps =
+    (p : Program) (carried : Option ℕ) (ops : List Operation) (rested : Store) (lease : Option ℕ)
+    → KeepsSound p (λ s t. TellsRested p s carried ops rested lease t)
 
 -- Two sound replicas, of one confluent program, that hold the same operations of 64-bit values and have settled, hold
 -- the same pool: the one normal form of what was told.

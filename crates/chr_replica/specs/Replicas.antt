@@ -1,5 +1,5 @@
 -- A replica of a program, and the events that change it: one record for each, which ends in the whole replica after it.
-use Rattle.std.specs.Prelude.{◌≡◌, ℕ, ◌+◌, ◌≤◌, List, [], ◌∷◌, length, All, Some}
+use Rattle.std.specs.Prelude.{◌≡◌, ℕ, ◌+◌, ◌≤◌, List, [], ◌∷◌, length, All, Option, Some, None}
 use Rattle.std.specs.FinMap as map
 use Rattle.chr_base.specs.declared.program.Program.{Program}
 use Rattle.chr_base.specs.declared.derivation.Step.{Step as StepValue}
@@ -132,26 +132,29 @@ abbrev pub TellsEach : Program → Replica → List Operation → Replica → Ty
 TellsEach p s [] t = t ≡ s
 TellsEach p s (op ∷ ops) t = (u : Replica) × Tells p s op u × TellsEach p u ops t
 
--- so they are, and then steps are taken in the pool
-pub record TellsRested (p : Program) (s : Replica) (ops : List Operation) (t : Replica) : Type 0 where
-  pub told : Replica
-  pub tells : TellsEach p s ops told
-  pub count : ℕ
-  pub settles : Settles p told count t
+-- the part that is out under a number, if one is named, comes back as it is
+abbrev pub ComesBack : Replica → Option ℕ → Replica → Type 0
+ComesBack s None t = t ≡ s
+ComesBack s (Some number) t = Recalls s number t
 
--- so they are, and then a part of the pool is leased out, under the next number
-pub record TellsLeased (p : Program) (s : Replica) (ops : List Operation) (part : Store) (number : ℕ) (t : Replica)
-    : Type 0 where
-  pub rested : Replica
-  pub tells : TellsRested p s ops rested
-  pub takes : Takes rested part number t
+-- a part of the pool is leased out under a number, if one is named
+abbrev pub GoesOut : Replica → Store → Option ℕ → Replica → Type 0
+GoesOut s part None t = t ≡ s
+GoesOut s part (Some number) t = Takes s part number t
 
--- so they are after the part that was out under a number came back
-pub record TellsLeasedWith (p : Program) (s : Replica) (out : ℕ) (ops : List Operation) (part : Store) (number : ℕ)
-    (t : Replica) : Type 0 where
+-- A part that was out, if one is carried, comes back; each of the operations is told; then steps are taken in the pool,
+-- which leave what it had at first, and beside that what was rested; and that is leased out, if a number is named.
+pub record TellsRested (p : Program) (s : Replica) (carried : Option ℕ) (ops : List Operation) (rested : Store)
+    (lease : Option ℕ) (t : Replica) : Type 0 where
   pub back : Replica
-  pub recalls : Recalls s out back
-  pub tells : TellsLeased p back ops part number t
+  pub comes_back : ComesBack s carried back
+  pub told : Replica
+  pub tells : TellsEach p back ops told
+  pub count : ℕ
+  pub settled : Replica
+  pub settles : Settles p told count settled
+  pub pool : settled.pool ≡ s.pool ⊕ rested
+  pub goes_out : GoesOut settled rested lease t
 
 -- no part is out, and the pool is at rest
 abbrev pub IsSettled : Program → Replica → Type 0

@@ -1,4 +1,5 @@
 -- Words of private contracts and fields.
 pub mod Codes
 pub mod Cuts
+pub mod Joining
 pub mod States

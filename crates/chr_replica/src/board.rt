@@ -61,14 +61,14 @@ impl Drop for Board {
 }
 
 impl Board {
-    /// The replica that was told nothing, in so many pools at most.
-    fn in_pools(alloc: Global, accepted: Arc<Accepted>, most: usize) -> Result<Board, AllocError>
+    /// The replica that was told nothing. Its first lease will have the number 1.
+    pub fn open(alloc: Global, accepted: Arc<Accepted>) -> Result<Board, AllocError>
         ensures accepted { IfOk result (λ board. board.accepted ≡ arc_value accepted) }
         ensures replica { IfOk result (λ board. board.replica ≡ first) }
     {
         events_keep_replicas_sound();
         let weighed = accepted.shared().clone()?;
-        let pool = Shards::open(alloc, weighed, accepted.seed(), most)?;
+        let pool = Shards::open(alloc, weighed, accepted.seed(), accepted.pools())?;
         Ok(Board {
             accepted,
             ops: OpSet::new(alloc),
@@ -76,24 +76,6 @@ impl Board {
             out: Leases::new(alloc),
             next: 1,
         })
-    }
-
-    /// The replica that was told nothing. Its first lease will have the number 1.
-    pub fn open(alloc: Global, accepted: Arc<Accepted>) -> Result<Board, AllocError>
-        ensures accepted { IfOk result (λ board. board.accepted ≡ arc_value accepted) }
-        ensures replica { IfOk result (λ board. board.replica ≡ first) }
-    {
-        let most = accepted.pools();
-        Board::in_pools(alloc, accepted, most)
-    }
-
-    /// The same in one pool, which takes less to make: a board that stands in the place of another one while that one
-    /// is worked on.
-    pub fn spare(alloc: Global, accepted: Arc<Accepted>) -> Result<Board, AllocError>
-        ensures accepted { IfOk result (λ board. board.accepted ≡ arc_value accepted) }
-        ensures replica { IfOk result (λ board. board.replica ≡ first) }
-    {
-        Board::in_pools(alloc, accepted, 1)
     }
 
     /// What its type keeps: its operations' atoms, which are of 64-bit values and no more than [`MAX_TOLD`], reach its

@@ -1,8 +1,7 @@
 //! The laws of replicas. Each is a function that takes nothing and computes nothing: its contract is the law.
 ghost use Rattle.chr_replica.specs.Laws.{FirstIsSound, OneAnswer};
 ghost use Rattle.chr_replica.specs.Laws.{TellKeeps, MergeKeeps, StepKeeps, TakeKeeps, TakePartsKeeps, PutKeeps};
-ghost use Rattle.chr_replica.specs.Laws.{RecallKeeps, SettleKeeps};
-ghost use Rattle.chr_replica.specs.Laws.{TellRestedKeeps, TellLeasedKeeps, TellLeasedWithKeeps};
+ghost use Rattle.chr_replica.specs.Laws.{RecallKeeps, SettleKeeps, TellRestedKeeps};
 
 /// The replica that was told nothing is sound, and each event keeps replicas so: what was told reaches the pool with
 /// all leased parts.
@@ -17,8 +16,6 @@ pub fn events_keep_replicas_sound()
     ensures recall { RecallKeeps }
     ensures settle { SettleKeeps }
     ensures tell_rested { TellRestedKeeps }
-    ensures tell_leased { TellLeasedKeeps }
-    ensures tell_leased_with { TellLeasedWithKeeps }
 {}
 
 /// Replicas of one confluent program that hold the same operations and have settled hold the same store: the one normal

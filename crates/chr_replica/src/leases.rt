@@ -1,9 +1,13 @@
 //! Parts that are leased out, seen as a finite map. How they are kept is known in this file alone.
-ghost use Rattle.std.specs.Prelude.{◌≡◌, ◌+◌, ◌<◌, ◌^◌, length, OnOk, OnErr, IfSome, IfNone, IsSome, option_copied};
+ghost use Rattle.std.specs.Prelude.{◌≡◌, ◌+◌, ◌<◌, ◌^◌, ◌↔◌, length, OnOk, OnErr, IfSome, IfNone, IsSome, IsTrue};
+ghost use Rattle.std.specs.Prelude.{option_copied, Some};
 ghost use Rattle.std.specs.FinMap as map;
 ghost use Rattle.chr_replica.specs.Leases.{with_parts, parts_in, AreBelow};
 ghost use Rattle.chr_replica.specs.LeastOut.{AreFrom};
+ghost use Rattle.chr_replica.specs.RestedOps.{IsOut};
+ghost use Rattle.chr_replica.specs.working.Joining.{left_out};
 
+use crate::rested::LeasedPart;
 use chr_base::bag::Bag;
 use chr_join::Lease;
 use std::alloc::{AllocError, Global};
@@ -45,6 +49,26 @@ impl Leases {
         self.parts.get(&number)
     }
 
+    /// Whether this is the part that is out under a number. It takes no memory.
+    pub(crate) fn has(&self, number: u64, part: &Bag) -> bool
+        ensures { IsTrue result ↔ (map.get self.now number ≡ Some part.now) }
+    {
+        match self.get(number) {
+            Some(out) => out.is_same(part),
+            None => false,
+        }
+    }
+
+    /// Whether the part that is carried, if any, is out under its number. It takes no memory.
+    pub(crate) fn have(&self, carried: Option<LeasedPart<'_>>) -> bool
+        ensures { IsTrue result ↔ IsOut self.now carried.entry }
+    {
+        match carried {
+            Some(leased) => self.has(leased.number, leased.part),
+            None => true,
+        }
+    }
+
     /// Puts a part under a number.
     pub(crate) fn insert(&mut self, number: u64, part: Bag) -> Result<(), AllocError>
         ensures ok { OnOk result (self.new ≡ map.insert self.old number part) }
@@ -83,6 +107,15 @@ impl Leases {
         ensures { self.new ≡ map.remove self.old number }
     {
         self.parts.remove(&number);
+    }
+
+    /// Takes out the part that is carried, if any. It takes no memory.
+    pub(crate) fn leave_out(&mut self, carried: Option<LeasedPart<'_>>)
+        ensures { self.new ≡ left_out self.old carried.entry }
+    {
+        if let Some(leased) = carried {
+            self.remove(leased.number);
+        }
     }
 
     /// How many are out. It takes no memory.

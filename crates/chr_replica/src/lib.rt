@@ -10,8 +10,10 @@ pub mod laws;
 mod leases;
 pub mod limits;
 mod refusal;
+mod rested;
 
 pub use agreeing::agree;
 pub use board::{Board, NotPut};
 pub use declared::{declares, declares_all};
 pub use refusal::{Limit, Refusal};
+pub use rested::{Destination, LeasedPart, Placed, RestedOps};

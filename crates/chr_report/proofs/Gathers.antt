@@ -1,6 +1,6 @@
 -- Tells that are read one after another, and rested.
 use Rattle.std.proofs.Common.{◌≡◌, ◌≤◌, ◌<◌, ◌+◌, ℕ, arith, length, List, [], ◌∷◌}
-use Rattle.std.proofs.Common.{◌++◌, All, ◌⊎◌, inl, inr, refl, sym, ap, ◌∙◌, subst, get_or, take}
+use Rattle.std.proofs.Common.{◌++◌, All, None, ◌⊎◌, inl, inr, refl, sym, ap, ◌∙◌, subst, get_or, take}
 use Rattle.std.proofs.lemmas.List.{take_more}
 use Rattle.std.proofs.lemmas.List.Elements.{All-cons, All-nil}
 use Rattle.chr_base.specs.declared.program.Program.{Program}
@@ -18,9 +18,12 @@ use Rattle.chr_rewrite.specs.Pools.{TookSteps}
 use Rattle.chr_rewrite.proofs.PoolLemmas.{took_reaches}
 use Rattle.chr_weights.specs.WeighedPrograms.{program_of}
 use Rattle.chr_replica.specs.Replicas.{IsDeclared}
+use Rattle.chr_replica.specs.RestedOps.{carried_store, AreRestedBy}
+use Rattle.chr_replica.specs.declared.rested.RestedOps.{RestedOps}
 use Rattle.chr_report.specs.declared.gathering.Gathering.{Gathering}
+use Rattle.chr_report.specs.declared.gathering.Tells.{Tells}
 use Rattle.chr_report.specs.declared.request.Request.TheVariants as request
-use Rattle.chr_report.specs.working.Gathered.{IsGathered, ReachTogether, TellFirst}
+use Rattle.chr_report.specs.working.Gathered.{AreRested, IsGathered, ReachTogether, TellFirst}
 use Rattle.chr_report.specs.working.Requests.{AsksFirst}
 
 -- no line yet
@@ -96,12 +99,25 @@ reach_more p before ops op s t put h =
     (plus_assoc before (sum_of ops) op.1 ∙ ap (λ u. before ⊕ u) (sym (sum_push ops op)))
     (Reaches-grows (rules_of p) (before ⊕ sum_of ops) s op.1 h))
 
--- nothing was carried to them
-pub reach_alone : (p : Program) (before : Store) (ops : List Operation) (s : Store) → before ≡ bag.empty
-    → ReachTogether p before ops s → Reaches (Step (rules_of p)) (sum_of ops) s
-reach_alone p before ops s none h =
-    subst (λ u. Reaches (Step (rules_of p)) u s)
-    (ap (λ b. b ⊕ sum_of ops) none ∙ plus_comm bag.empty (sum_of ops) ∙ plus_empty (sum_of ops)) h
+-- they are what a replica is told, with what was carried to them
+pub rested_by : (p : Program) (t : Tells) (r : RestedOps) → r.ops.now ≡ t.ops.items
+    → carried_store r.carried ≡ t.carried.part → r.rested.now ≡ t.rested → AreRested p t → AreRestedBy p r
+rested_by p t r ops part same h = record {
+  declared = subst (All (IsDeclared p)) (sym ops) h.declared;
+  reached = subst (λ s. Reaches (Step (rules_of p)) (carried_store r.carried ⊕ sum_of r.ops.now) s) (sym same)
+      (subst (λ s. Reaches (Step (rules_of p)) s t.rested) (λ i. sym part i ⊕ sum_of (sym ops i)) h.reached);
+}
+
+-- or as they are
+pub unrested_by : (p : Program) (t : Tells) (r : RestedOps) → r.ops.now ≡ t.ops.items → r.carried ≡ None
+    → r.rested.now ≡ sum_of t.ops.items → AreRested p t → AreRestedBy p r
+unrested_by p t r ops none same h = record {
+  declared = subst (All (IsDeclared p)) (sym ops) h.declared;
+  reached = subst (λ s. Reaches (Step (rules_of p)) s r.rested.now)
+      (same ∙ ap sum_of (sym ops) ∙ sym (plus_empty (sum_of r.ops.now)) ∙ plus_comm (sum_of r.ops.now) bag.empty
+      ∙ ap (λ c. carried_store c ⊕ sum_of r.ops.now) (sym none))
+      (reaches_itself (Step (rules_of p)) r.rested.now);
+}
 
 -- steps are taken
 reach_on : (p : Program) (before : Store) (ops : List Operation) (s t : Store) → ReachTogether p before ops s

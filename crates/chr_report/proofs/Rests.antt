@@ -1,17 +1,14 @@
 -- A replica that comes to rest by workers.
-use Rattle.std.proofs.Common.{◌≡◌, ◌≤◌, ℕ, ◌-◌, inl, inr, length, sym, ap, ◌∙◌, subst}
-use Rattle.std.specs.Prelude.{Option, Result, Ok, Err, OnOk, Some, slice_set}
-use Rattle.std.proofs.lemmas.List.{length-set, set-set}
+use Rattle.std.proofs.Common.{◌≡◌, ℕ, ◌-◌, inl, inr, sym, ap, ◌∙◌, subst}
+use Rattle.std.specs.Prelude.{Option, Some, slice_set}
 use Rattle.std.proofs.lemmas.List.Elements.{All-set}
 use Rattle.std.proofs.lemmas.Option.{slice_get_within}
 use Rattle.chr_base.specs.declared.program.Program.{Program}
-use Rattle.chr_base.specs.Programs.{rules_of}
-use Rattle.chr_base.specs.Rules.{Step}
-use Rattle.chr_base.specs.Rewriting.{IsAtRest}
 use Rattle.chr_columns.proofs.Slices.{slice_set_same}
 use Rattle.chr_replica.specs.Replicas.{Replica, IsSettled, IsSound}
-use Rattle.chr_worlds.specs.Worlds.{Replicas, Changes, HasReplica, IsAt}
-use Rattle.chr_report.specs.working.Services.{operations_held, AreBetweenLines, ComesToRest, RestsAt}
+use Rattle.chr_worlds.specs.Resting.{RestsAt}
+use Rattle.chr_worlds.specs.Worlds.{Replicas, IsAt}
+use Rattle.chr_report.specs.working.Services.{operations_held, AreBetweenLines}
 use Rattle.chr_report.proofs.Held.{same_held, has_one}
 
 -- the replica of a number after a change
@@ -39,28 +36,3 @@ rests_at p w v r (inl h) t there = absurd (h.0 (has_one w r t (subst (λ u. IsAt
 rests_at p w v r (inr h) t there =
     subst (IsSettled p) (changed_at w r h.before h.after t h.there (subst (λ u. IsAt u r t) h.world there))
     h.changed.settled
-
--- there is still a replica of the number after a change
-pub still_there : (w u : Replicas) (r : ℕ) (R : Replica → Replica → Type 0) → Changes w r R u → HasReplica u r
-still_there w u r R h =
-    let there = has_one w r h.before h.there in
-    (there.0, subst (λ n. r ≤ n) (sym (ap length h.world ∙ length-set w (r - 1) h.after)) there.1)
-
--- a replica is taken out for another one, and comes back as one at rest
-pub back_at_rest : {E : Type 0} (result : Result (Unit {0}) E) (p : Program) (w u v : Replicas) (r : ℕ)
-    (spare s again t : Replica) → Changes w r (λ x y. (x ≡ s) × (y ≡ spare)) u
-    → Changes u r (λ x y. (x ≡ again) × (y ≡ t)) v → t.operations ≡ s.operations → IsSound p t
-    → OnOk result (IsSettled p t) → OnOk result (RestsAt p w r v)
-back_at_rest (Err e) p w u v r spare s again t out back operations sound settled = tt
-back_at_rest (Ok done) p w u v r spare s again t out back operations sound settled =
-    let world : v ≡ slice_set w (r - 1) back.after = back.world
-    ∙ (ap (λ l. slice_set l (r - 1) back.after) out.world ∙ set-set w (r - 1) out.after back.after) in
-    let rests : ComesToRest p s t = record { operations = operations; sound = sound; settled = settled } in
-    inr record {
-      before = out.before;
-      after = back.after;
-      there = out.there;
-      changed = subst (λ x. ComesToRest p x back.after) (sym out.changed.0)
-          (subst (ComesToRest p s) (sym back.changed.1) rests);
-      world = world;
-    }

@@ -1,7 +1,7 @@
 -- Replicas that are told operations which were rested before, and the answers.
 use Rattle.std.proofs.Common.{◌≡◌, ℕ, zero, suc, ◌+◌, ◌-◌, List, [], ◌∷◌, ◌++◌, length, refl, sym, ap, ◌∙◌, subst}
 use Rattle.std.proofs.Common.{append_assoc, append-nil, arith, codes}
-use Rattle.std.specs.Prelude.{Option, Some, None, IfNone, MatchOption}
+use Rattle.std.specs.Prelude.{Option, Some, None, MatchOption}
 use Rattle.std.specs.Prelude.{slice_get, slice_set, string_bytes}
 use Rattle.std.proofs.lemmas.List.{map-set, set-set}
 use Rattle.std.proofs.lemmas.List.Elements.{All-set}
@@ -12,7 +12,8 @@ use Rattle.chr_base.specs.Programs.{declarations, rules_of}
 use Rattle.chr_base.specs.Stores.{Store}
 use Rattle.chr_columns.proofs.Slices.{slice_set_same}
 use Rattle.chr_ops.specs.Operations.{Operation, Operations}
-use Rattle.chr_replica.specs.Replicas.{Replica, IsSound, TellsEach, TellsLeased, TellsLeasedWith, TellsRested}
+use Rattle.chr_replica.specs.Replicas.{Replica, IsSound, TellsEach, TellsRested}
+use Rattle.chr_replica.proofs.RestedTells.{back_holds, rested_keeps, settled_holds}
 use Rattle.chr_worlds.specs.Worlds.{Replicas, Changes}
 use Rattle.chr_report.specs.Answers.{held_by, AnswersAt, AnswersRefusal, AnswersTell, OneAnswers}
 use Rattle.chr_report.specs.Lines.{without_return}
@@ -29,44 +30,35 @@ use Rattle.chr_report.specs.working.Requests.{AsksFirst}
 use Rattle.chr_report.specs.working.Services.{held, operations_held, served, AreBetweenLines, IsBetweenLines}
 use Rattle.chr_report.specs.working.Services.{TellsAt, TellsSoundly}
 use Rattle.chr_report.specs.working.Serving.{AnswersFront}
+use Rattle.chr_report.proofs.BetweenLines.{ready_at}
 use Rattle.chr_report.proofs.Held.{held_as, held_at, same_set}
 use Rattle.chr_report.proofs.Pieces.{front_begins, front_goes_on, fronts_join}
 use Rattle.chr_report.proofs.Telling.{new_told}
 
 -- ---- a replica that is told them
 
--- what stays of what it was told takes part in no answer
-pub rested_soundly : (p : Program) (ops : List Operation) (s t : Replica) → IsSound p t → TellsRested p s ops t
-    → TellsSoundly p ops s t
-rested_soundly p ops s t sound h = record {
-  start = s;
-  held = refl;
+-- what was rested of what it was told takes part in no answer
+rested_soundly : (p : Program) (carried : Option ℕ) (ops : List Operation) (rested : Store) (lease : Option ℕ)
+    (s t : Replica) → IsSound p s → TellsRested p s carried ops rested lease t → TellsSoundly p ops s t
+rested_soundly p carried ops rested lease s t sound h = record {
+  start = h.back;
+  held = back_holds s carried h.back h.comes_back;
   told = h.told;
   tells = h.tells;
-  operations = ap (λ r. r.operations) h.settles.after;
-  sound = sound;
+  operations = settled_holds p s carried ops rested lease t h;
+  sound = rested_keeps p s carried ops rested lease t h sound;
 }
 
-pub leased_soundly : (p : Program) (ops : List Operation) (s t : Replica) (part : Store) (number : ℕ) → IsSound p t
-    → TellsLeased p s ops part number t → TellsSoundly p ops s t
-leased_soundly p ops s t part number sound h = record {
-  start = s;
-  held = refl;
-  told = h.tells.told;
-  tells = h.tells.tells;
-  operations = ap (λ r. r.operations) h.takes.after ∙ ap (λ r. r.operations) h.tells.settles.after;
-  sound = sound;
-}
-
-pub leased_with_soundly : (p : Program) (ops : List Operation) (s t : Replica) (out : ℕ) (part : Store) (number : ℕ)
-    → IsSound p t → TellsLeasedWith p s out ops part number t → TellsSoundly p ops s t
-leased_with_soundly p ops s t out part number sound h = record {
-  start = h.back;
-  held = ap (λ r. r.operations) h.recalls.after;
-  told = h.tells.tells.told;
-  tells = h.tells.tells.tells;
-  operations = ap (λ r. r.operations) h.tells.takes.after ∙ ap (λ r. r.operations) h.tells.tells.settles.after;
-  sound = sound;
+pub told_at : (p : Program) (w : Replicas) (r : ℕ) (ops : List Operation) (v : Replicas) (carried : Option ℕ)
+    (os : List Operation) (rested : Store) (lease : Option ℕ) → os ≡ ops → AreBetweenLines p w
+    → Changes w r (λ s t. TellsRested p s carried os rested lease t) v → TellsAt p w r ops v
+told_at p w r ops v carried os rested lease are ready h = record {
+  before = h.before;
+  after = h.after;
+  there = h.there;
+  changed = subst (λ l. TellsSoundly p l h.before h.after) are
+      (rested_soundly p carried os rested lease h.before h.after (ready_at p w r h.before ready h.there) h.changed);
+  world = h.world;
 }
 
 pub told_ready : (p : Program) (w : Replicas) (r : ℕ) (ops : List Operation) (v : Replicas) → TellsAt p w r ops v
@@ -84,33 +76,6 @@ holds_more p w r ops v h = record {
   others = ap operations_held h.world ∙ map-set (λ t. t.operations) w (r - 1) h.after
       ∙ ap (λ m. slice_set (operations_held w) (r - 1) m) h.changed.operations;
 }
-
--- its board is worked on with another one in its place, and comes back
-module _ (w u v : Replicas) (r : ℕ) (spare s again t : Replica) (out : Changes w r (λ x y. (x ≡ s) × (y ≡ spare)) u)
-    (back : Changes u r (λ x y. (x ≡ again) × (y ≡ t)) v) where
-  came_back : v ≡ slice_set w (r - 1) back.after
-  came_back = back.world ∙ (ap (λ l. slice_set l (r - 1) back.after) out.world
-      ∙ set-set w (r - 1) out.after back.after)
-
-  pub told_back : (p : Program) (ops : List Operation) → TellsSoundly p ops s t → TellsAt p w r ops v
-  told_back p ops h = record {
-    before = out.before;
-    after = back.after;
-    there = out.there;
-    changed = subst (λ x. TellsSoundly p ops x back.after) (sym out.changed.0)
-        (subst (TellsSoundly p ops s) (sym back.changed.1) h);
-    world = came_back;
-  }
-
-  pub same_back : t ≡ s → v ≡ w
-  same_back e = came_back ∙ ap (λ x. slice_set w (r - 1) x) (back.changed.1 ∙ e ∙ sym out.changed.0)
-      ∙ same_set w (r - 1) out.before out.there.1
-
--- ---- nothing found
-
-pub if_none_then : {A P Q : Type 0} (o : Option A) → (P → Q) → IfNone o P → IfNone o Q
-if_none_then (Some x) f h = tt
-if_none_then None f h = f h
 
 -- ---- the answers
 

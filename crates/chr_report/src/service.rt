@@ -23,7 +23,7 @@ use crate::promptly::promptly;
 use crate::readers::Readers;
 use crate::reply::Reply;
 use crate::request::Request;
-use crate::resting::{rest_replica, tell_replica};
+use crate::resting::tell_replica;
 use crate::sharing::Sharing;
 use chr_acts::{Act, Reply as ActReply};
 use chr_base::program::Program;
@@ -273,7 +273,8 @@ impl Service {
         ensures operations { OnOk result (held self.new ≡ held self.old) }
         ensures rests { OnOk result (AreAtRest self.new replica) }
     {
-        rest_replica(rt, alloc, &mut self.world, replica, self.sharing)?;
+        let Sharing { workers, parts, .. } = self.sharing;
+        self.world.rest(rt, alloc, replica, workers, parts)?;
         self.note_waiting(replica, 0);
         self.forget_parts();
         Ok(())

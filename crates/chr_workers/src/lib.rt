@@ -15,3 +15,4 @@ pub use gate::{Gate, OpenGate};
 pub use parts::{Parts, rest_parts};
 pub use rested::Rested;
 pub use resting::{rest_board, rest_in_parts};
+pub use returning::recall_all;

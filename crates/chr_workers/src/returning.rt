@@ -51,8 +51,11 @@ pub(crate) fn hasten<R: Threads + Sync>(rt: &R, board: &mut Board, workers: u32)
     board.hasten(rt, workers as usize);
 }
 
-/// Recalls all leases.
-pub(crate) fn recall_all(board: &mut Board) -> Result<(), AllocError>
+/// Takes all parts of a board that are out back into its pool as they are. What comes of their leases later is refused.
+///
+/// # Errors
+/// Where memory is refused. Some leases may be out then.
+pub fn recall_all(board: &mut Board) -> Result<(), AllocError>
     ensures kept { IsKeptBy board.old board.new }
     ensures recalls { OnOk result ((n : ℕ) × RecallsEach n board.old.replica board.new.replica) }
     ensures out { OnOk result (board.new.replica.out ≡ map.empty) }

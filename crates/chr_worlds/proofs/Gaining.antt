@@ -1,6 +1,6 @@
 -- What boards gained, as news keep it, stays true of them.
-use Rattle.std.specs.Prelude.{◌≡◌, ◌≢◌, ℕ, List, [], ◌∷◌, Some, slice_get, slice_set, Result, Ok, Err, IfOk, OnErr}
-use Rattle.std.specs.Prelude.{true, false}
+use Rattle.std.specs.Prelude.{◌≡◌, ◌≢◌, ℕ, List, [], ◌∷◌, Option, Some, None, slice_get, slice_set, Result, Ok, Err}
+use Rattle.std.specs.Prelude.{IfOk, OnErr, true, false}
 use mathlib.Core.Bool.{true≢false}
 use Rattle.std.specs.declared.alloc.AllocError.{AllocError}
 use Rattle.std.proofs.Common.{refl, sym, ap, ◌∙◌, subst, inl, inr}
@@ -23,7 +23,10 @@ use Rattle.chr_ops.proofs.NewsOfAll.{union_gains, union_holds, union_holds_both,
 use Rattle.chr_ops.proofs.NewsOfAll.{gained_all, met_all}
 use Rattle.chr_replica.specs.Boards.{Held, program_on}
 use Rattle.chr_replica.specs.declared.refusal.Refusal.TheVariants as refusal
+use Rattle.chr_replica.specs.declared.rested.Placed.{Placed}
+use Rattle.chr_replica.specs.declared.rested.RestedOps.{RestedOps}
 use Rattle.chr_replica.specs.Replicas.{Replica}
+use Rattle.chr_replica.proofs.RestedTells.{rested_holds}
 use Rattle.chr_acts.specs.declared.act.Act.{Act}
 use Rattle.chr_acts.specs.declared.act.Act.TheVariants as act
 use Rattle.chr_acts.specs.declared.reply.Reply.{Reply}
@@ -31,7 +34,7 @@ use Rattle.chr_acts.specs.declared.reply.Reply.TheVariants as reply
 use Rattle.chr_acts.specs.Events.{Does}
 use Rattle.chr_worlds.specs.Worlds.{Works}
 use Rattle.chr_worlds.specs.working.Boards.{sets_on, IsTrueOn, TellsNothing, is_told_new, Grows, ChangesAt}
-use Rattle.chr_worlds.specs.working.Boards.{AreLacked, ExchangesAt, HoldsAllOf}
+use Rattle.chr_worlds.specs.working.Boards.{AreLacked, ExchangesAt, HoldsAllOf, MayTellAt}
 use Rattle.chr_worlds.proofs.Exchanging.{took_in}
 use Rattle.chr_worlds.proofs.Places.{part_at}
 
@@ -166,6 +169,24 @@ not_merged_on w place ops x other bs cs h right =
     subst (IsTrueOn w) (sym h.boards)
     (stays_true w bs place h.before h.after h.there
     (merge_alike (program_on h.before) h.before.replica ops x h.after.replica other h.changed) right)
+
+-- the ids of rested operations that it was told
+pub rested_on : (v w : News) (place : ℕ) (r : RestedOps) (x : Option Placed) (y : Placed) → x ≡ Some y
+    → ((b : ℕ) (m n k : Operations) → IsTrueOf v place b m n → GainsOnly m k (ids_of r.ops.now)
+    → IsTrueOf w place b k n)
+    → ((a b : ℕ) (m n : Operations) → a ≢ place → IsTrueOf v a b m n → IsTrueOf w a b m n)
+    → (bs cs : List Held) → MayTellAt bs place r x cs → IsTrueOn v bs → IsTrueOn w cs
+rested_on v w place r x y is gives others bs cs may right =
+    let h : MayTellAt bs place r (Some y) cs = subst (λ o. MayTellAt bs place r o cs) is may in
+    gained_on v w place r.ops.now (ids_of r.ops.now) refl gives others bs cs _ h
+    (rested_holds (program_on h.before) h.before.replica _ r.ops.now r.rested.now _ h.after.replica h.changed) right
+
+-- and nothing of those that it was not told
+pub not_rested_on : (w : News) (place : ℕ) (r : RestedOps) (x : Option Placed) → x ≡ None → (bs cs : List Held)
+    → MayTellAt bs place r x cs → IsTrueOn w bs → IsTrueOn w cs
+not_rested_on w place r x is bs cs may right =
+    let h : cs ≡ bs = subst (λ o. MayTellAt bs place r o cs) is may in
+    subst (IsTrueOn w) (sym h) right
 
 -- so it is of two boards at their places
 pub true_of : (w : News) (from to : ℕ) (bs : List Held) (giver taker : Held) → IsTrueOn w bs

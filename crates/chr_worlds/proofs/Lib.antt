@@ -4,4 +4,5 @@ mod Exchanging
 mod Gaining
 mod Places
 mod Runs
+mod RestedRuns
 mod Returns

@@ -1,16 +1,22 @@
 -- The boards of a world in a list, and their replicas.
-use Rattle.std.specs.Prelude.{◌≡◌, ℕ, suc, ◌+◌, ◌<◌, List, length, replicate, zero, ◌∷◌, Option, Some}
-use Rattle.std.specs.Prelude.{◌-◌, map as each, slice_get, slice_index_or, slice_set}
-use Rattle.std.proofs.Common.{refl, sym, ap, ◌∙◌, subst, arith}
+use Rattle.std.specs.Prelude.{◌≡◌, ℕ, suc, ◌+◌, ◌<◌, ◌≤◌, List, length, replicate, zero, ◌∷◌, Option, Some, None}
+use Rattle.std.specs.Prelude.{◌-◌, map as each, slice_get, slice_index_or, slice_set, All, IfNone, IfSome}
+use Rattle.std.specs.Prelude.{Result, Ok, Err, OnOk}
+use Rattle.std.proofs.Common.{refl, sym, ap, ◌∙◌, subst, arith, inr}
 use Rattle.std.specs.Option.{option_map}
-use Rattle.std.proofs.lemmas.List.{map-set, set-get_or}
+use Rattle.std.proofs.lemmas.List.{length-map, map-set, set-get_or}
 use Rattle.std.proofs.lemmas.List.Elements.{All-set}
-use Rattle.std.proofs.lemmas.Option.{slice_get-map, slice_get-get_or, slice_get_within, get_or_from_slice_get}
+use Rattle.std.proofs.lemmas.Option.{none-some, slice_get-map, slice_get-get_or, slice_get_within}
+use Rattle.std.proofs.lemmas.Option.{get_or_from_slice_get}
 use Rattle.chr_join.specs.declared.accepted.Accepted.{Accepted}
 use Rattle.chr_base.specs.declared.program.Program.{Program}
 use Rattle.chr_replica.specs.Boards.{Held}
-use Rattle.chr_replica.specs.Replicas.{Replica}
+use Rattle.chr_replica.specs.Replicas.{Replica, IsSettled, IsSound}
 use Rattle.chr_replica.specs.Boards.{program_on}
+use Rattle.chr_replica.specs.RestedOps.{AreRestedBy, RefusesThem, TellsThem}
+use Rattle.chr_replica.specs.declared.rested.Destination.{Destination}
+use Rattle.chr_replica.specs.declared.rested.Placed.{Placed}
+use Rattle.chr_replica.specs.declared.rested.RestedOps.{RestedOps}
 use Rattle.chr_ops.specs.Operations.{Operation}
 use Rattle.chr_ops.specs.Summaries.{CoversJust}
 use Rattle.chr_acts.specs.declared.act.Act.{Act}
@@ -18,9 +24,11 @@ use Rattle.chr_acts.specs.declared.act.Act.TheVariants as act
 use Rattle.chr_acts.specs.declared.reply.Reply.{Reply}
 use Rattle.chr_acts.specs.Events.{Does}
 use Rattle.chr_join.specs.AcceptedPrograms.{program_in}
+use Rattle.chr_worlds.specs.Resting.{ComesToRest, RestsAt}
 use Rattle.chr_worlds.specs.Worlds.{Changes, IsAt, TakesIn}
 use Rattle.chr_worlds.specs.Sharing.{Shared, shared_program}
 use Rattle.chr_worlds.specs.working.Boards.{replicas_on, AreOf, ChangesAt, AreLacked, AreLackedAt, ExchangesAt}
+use Rattle.chr_worlds.specs.working.Boards.{MayTellAt}
 
 -- a board that was read is at its place
 pub is_there : (bs : List Held) (place : ℕ) (b : Held) → place < length bs → b ≡ slice_index_or bs place b
@@ -172,3 +180,105 @@ syncs_at w a bs cs a_number b_number from to x view is_a is_b all h =
       replicas_change a bs cs b_number to _ _ is_b all
           (λ b t of takes. subst (λ a. TakesIn (program_in a) h.giver.replica b.replica x t) of takes) h.taken,
     )
+
+-- ---- a board that is told rested operations
+
+-- what holds of the program holds of each board's
+pub of_each : (a : Accepted) (bs : List Held) (r : RestedOps) → AreOf a bs → AreRestedBy (program_in a) r
+    → All (λ b. AreRestedBy (program_on b) r) bs
+of_each a bs r all rested = λ k d within.
+    subst (λ x. AreRestedBy (program_in x) r) (sym (all k d within)) rested
+
+-- and of one that was read
+pub of_one : (now bs : List Held) (place : ℕ) (b : Held) (r : RestedOps) → bs ≡ now → place < length now
+    → b ≡ slice_index_or bs place b → All (λ b. AreRestedBy (program_on b) r) now → AreRestedBy (program_on b) r
+of_one now bs place b r view within read all =
+    subst (λ b. AreRestedBy (program_on b) r) (ap (λ l. slice_index_or l place b) (sym view) ∙ sym read)
+    (all place b within)
+
+-- it is told them in the list, or stays as it is
+pub may_tell_there : (now bs : List Held) (place : ℕ) (b c : Held) (r : RestedOps) (x : Option Placed) → bs ≡ now
+    → place < length now → b ≡ slice_index_or bs place b → c.accepted ≡ b.accepted
+    → IfSome x (λ y. TellsThem (program_on b) r y b.replica c.replica) → IfNone x (c ≡ b)
+    → MayTellAt now place r x (slice_set bs place c)
+may_tell_there now bs place b c r (Some y) view within read program told same =
+    changed_there now bs place b c (λ b t. TellsThem (program_on b) r y b.replica t) view within read program told
+may_tell_there now bs place b c r None view within read program told same =
+    ap (slice_set bs place) (same ∙ read) ∙ set-get_or bs place b ∙ view
+
+-- what follows where nothing was found
+none_then : {A P Q : Type 0} (x : Option A) → (P → Q) → IfNone x P → IfNone x Q
+none_then (Some y) f h = tt
+none_then None f h = f h
+
+-- what it refuses
+pub refused_there : (now bs : List Held) (place : ℕ) (b : Held) (r : RestedOps) (into : Destination)
+    (x : Option Placed) → bs ≡ now → b ≡ slice_index_or bs place b → IfNone x (RefusesThem b.replica r into)
+    → IfNone x ((d : Held) → slice_get now place ≡ Some d → RefusesThem d.replica r into)
+refused_there now bs place b r into x view read refuses =
+    none_then x (λ h d there. subst (λ e. RefusesThem e.replica r into)
+    (read ∙ get_or_from_slice_get bs place d b (ap (λ l. slice_get l place) view ∙ there)) h) refuses
+
+-- so it is in the world
+pub tells_at : (w : Shared) (a : Accepted) (bs cs : List Held) (number place : ℕ) (r : RestedOps) (x : Option Placed)
+    → record { accepted = a; replicas = replicas_on bs } ≡ w → number ≡ place + 1 → AreOf a bs
+    → MayTellAt bs place r x cs
+    → IfSome x (λ y. Changes w.replicas number (TellsThem (shared_program w) r y) (replicas_on cs))
+tells_at w a bs cs number place r (Some y) view is all h =
+    happens_at w a bs cs number place (λ p s t. TellsThem p r y s t) view is all h
+tells_at w a bs cs number place r None view is all h = tt
+
+pub stays_so : (w : Shared) (a : Accepted) (bs cs : List Held) (place : ℕ) (r : RestedOps) (x : Option Placed)
+    → record { accepted = a; replicas = replicas_on bs } ≡ w → MayTellAt bs place r x cs
+    → IfNone x (record { accepted = a; replicas = replicas_on cs } ≡ w)
+stays_so w a bs cs place r (Some y) view h = tt
+stays_so w a bs cs place r None view h = ap (λ l. record { accepted = a; replicas = replicas_on l }) h ∙ view
+
+pub refused_at : (w : Shared) (a : Accepted) (bs : List Held) (number place : ℕ) (r : RestedOps) (into : Destination)
+    (x : Option Placed) → record { accepted = a; replicas = replicas_on bs } ≡ w → number ≡ place + 1
+    → IfNone x ((b : Held) → slice_get bs place ≡ Some b → RefusesThem b.replica r into)
+    → IfNone x ((s : Replica) → IsAt w.replicas number s → RefusesThem s r into)
+refused_at w a bs number place r into (Some y) view is refuses = tt
+refused_at w a bs number place r into None view is refuses = λ s there.
+    let index : number - 1 ≡ place = omega (arith, is) in
+    by s (slice_get bs place) refl
+    (sym (slice_get-map (λ b. b.replica) bs place)
+    ∙ ap (slice_get (replicas_on bs)) (sym index)
+    ∙ ap (λ v. slice_get v.replicas (number - 1)) view ∙ there.1)
+  where
+    by : (s : Replica) (o : Option Held) → slice_get bs place ≡ o → option_map (λ b. b.replica) o ≡ Some s
+        → RefusesThem s r into
+    by s (Some b) e h = let same : b.replica ≡ s = cc in subst (λ t. RefusesThem t r into) same (refuses b e)
+    by s None e h = absurd (none-some s h)
+
+-- where there is no board of the number there is no replica
+pub none_there : (w : Shared) (a : Accepted) (bs : List Held) (number : ℕ) (s : Replica)
+    → record { accepted = a; replicas = replicas_on bs } ≡ w → ¬ ((0 < number) × (number ≤ length bs))
+    → ¬ IsAt w.replicas number s
+none_there w a bs number s view none there =
+    let within = slice_get_within w.replicas (number - 1) s there.1 in
+    let same : length bs ≡ length w.replicas =
+    sym (length-map bs (λ b. b.replica)) ∙ ap (λ v. length v.replicas) view in
+    let positive = there.0 in
+    none (positive, omega (arith, within, same, positive))
+
+-- ---- a board that comes to rest
+
+pub rested_there : {E : Type 0} (result : Result (Unit {0}) E) (now bs : List Held) (place : ℕ) (b c : Held)
+    → bs ≡ now → place < length now → b ≡ slice_index_or bs place b → c.accepted ≡ b.accepted
+    → c.replica.operations ≡ b.replica.operations → IsSound (program_on b) c.replica
+    → OnOk result (IsSettled (program_on b) c.replica)
+    → OnOk result (ChangesAt now place (λ b t. ComesToRest (program_on b) b.replica t) (slice_set bs place c))
+rested_there (Err e) now bs place b c view within read program operations sound settled = tt
+rested_there (Ok done) now bs place b c view within read program operations sound settled =
+    changed_there now bs place b c (λ b t. ComesToRest (program_on b) b.replica t) view within read program
+    (record { operations = operations; sound = sound; settled = settled })
+
+-- so it is in the world
+pub rests_at : {E : Type 0} (result : Result (Unit {0}) E) (w : Shared) (a : Accepted) (bs cs : List Held)
+    (number place : ℕ) → record { accepted = a; replicas = replicas_on bs } ≡ w → number ≡ place + 1 → AreOf a bs
+    → OnOk result (ChangesAt bs place (λ b t. ComesToRest (program_on b) b.replica t) cs)
+    → OnOk result (RestsAt (shared_program w) w.replicas number (replicas_on cs))
+rests_at (Err e) w a bs cs number place view is all h = tt
+rests_at (Ok done) w a bs cs number place view is all h =
+    inr (happens_at w a bs cs number place (λ p s t. ComesToRest p s t) view is all h)

@@ -1,5 +1,5 @@
 -- The statements of the laws of worlds.
-use Rattle.std.specs.Prelude.{◌≡◌, ℕ, List, All}
+use Rattle.std.specs.Prelude.{◌≡◌, ℕ, List, Option, All}
 use Rattle.std.specs.FinMap as map
 use Rattle.chr_base.specs.declared.program.Program.{Program}
 use Rattle.chr_base.specs.Stores.{Store}
@@ -11,23 +11,33 @@ use Rattle.chr_base.specs.Values.{HasValues}
 use Rattle.chr_confluence.specs.Confluence.{Confluent}
 use Rattle.chr_confluence.specs.laws.Parts.{whole, AreRested}
 use Rattle.chr_join.specs.Parts.{IsOnlyNormalForm}
-use Rattle.chr_ops.specs.Operations.{told_store}
+use Rattle.chr_ops.specs.Operations.{Operation, told_store}
 use Rattle.chr_ops.specs.Joins.{union}
 use Rattle.chr_ops.specs.Exchange.{HaveOneBag}
 use Rattle.chr_acts.specs.declared.reply.Reply.TheVariants as reply
 use Rattle.chr_replica.specs.declared.refusal.Refusal.TheVariants as refusal
-use Rattle.chr_replica.specs.Replicas.{Replica, first, IsSound, IsSettled}
+use Rattle.chr_replica.specs.Replicas.{Replica, first, IsSound, IsSettled, TellsRested}
 use Rattle.chr_worlds.specs.declared.event.Event.{Event}
 use Rattle.chr_worlds.specs.declared.event.Event.TheVariants as event
 use Rattle.chr_worlds.specs.declared.answer.Answer.{Answer}
 use Rattle.chr_worlds.specs.declared.answer.Answer.TheVariants as answer
-use Rattle.chr_worlds.specs.Worlds.{Replicas, IsAt, Happens, Runs}
+use Rattle.chr_worlds.specs.Worlds.{Replicas, IsAt, Changes, Happens, Runs}
 
 -- along each run replicas stay sound
 abbrev pub RunsKeep : Type 0
 RunsKeep =
     (p : Program) (w : Replicas) (es : List Event) (xs : List Answer) (v : Replicas) → Runs p w es xs v
     → All (IsSound p) w → All (IsSound p) v
+
+-- some run leads from the one world to the other
+abbrev pub RunsTo : Program → Replicas → Replicas → Type 0
+RunsTo p w v = (es : List Event) × (xs : List Answer) × Runs p w es xs v
+
+-- where a replica is told operations that were rested before, some run does the same
+abbrev pub RestedTellsRun : Type 0
+RestedTellsRun =
+    (p : Program) (w v : Replicas) (r : ℕ) (carried : Option ℕ) (ops : List Operation) (rested : Store)
+    (lease : Option ℕ) → Changes w r (λ s t. TellsRested p s carried ops rested lease t) v → RunsTo p w v
 
 -- some run, from a world in which no replica was told anything, leads to one that has the replica s
 pub record ComesAbout (p : Program) (s : Replica) : Type 0 where

@@ -1,26 +1,30 @@
 //! The boards of a world, with what each gained since others took from it.
-ghost use Rattle.std.specs.Prelude.{◌≡◌, ◌+◌, ◌<◌, ◌≤◌, ℕ, IfNone, IfOk, IfSome, OnErr, Some, length, replicate};
-ghost use Rattle.std.specs.Prelude.{slice_get};
+ghost use Rattle.std.specs.Prelude.{◌≡◌, ◌+◌, ◌<◌, ◌≤◌, ℕ, All, IfNone, IfOk, IfSome, OnErr, OnOk, Some, length};
+ghost use Rattle.std.specs.Prelude.{replicate, slice_get};
 ghost use Rattle.std.specs.Arc.{arc_value};
-ghost use Rattle.chr_replica.specs.Boards.{program_on};
+ghost use Rattle.chr_base.specs.declared.limits.TheConstants.{MAX_PARTS, MAX_WORKERS};
+ghost use Rattle.chr_replica.specs.Boards.{program_on, Held as HeldBoard};
 ghost use Rattle.chr_replica.specs.Replicas.{first};
+ghost use Rattle.chr_replica.specs.RestedOps.{AreRestedBy, IsPlaced, RefusesThem};
 ghost use Rattle.chr_acts.specs.Acts.{FitsAct};
 ghost use Rattle.chr_acts.specs.Events.{Does};
+ghost use Rattle.chr_worlds.specs.Resting.{ComesToRest, KeepsTold};
 ghost use Rattle.chr_worlds.specs.Worlds.{Works};
-ghost use Rattle.chr_worlds.specs.working.Boards.{AreLackedAt, AreOf, ChangesAt, ExchangesAt, HoldsAllOf};
+ghost use Rattle.chr_worlds.specs.working.Boards.{AreLackedAt, ChangesAt, ExchangesAt, HoldsAllOf, MayTellAt};
 ghost use Rattle.chr_worlds.specs.working.Boards.{TellsNothing};
 
 use crate::boards::{lacked, lacked_among, opened, place_of, work};
-use crate::gained::{keep_merged, keep_told};
+use crate::gained::{keep_merged, keep_rested, keep_told};
+use crate::resting::rest;
 use chr_acts::{Act, Reply, carry_out, merge, settle, tell};
 use chr_base::derivation::Step;
 use chr_join::Accepted;
 use chr_ops::{News, Op, exchange_laws};
-use chr_replica::Board;
+use chr_replica::{Board, Destination, Placed, RestedOps};
 use std::alloc::{AllocError, Global};
 use std::marker::Model;
-use std::mem::swap;
-use std::sync::Arc;
+use std::sync::{Arc, Wait};
+use std::thread::Threads;
 
 /// Boards in a list. An exchange between two of them looks only at what the giver gained since the taker last held all
 /// that it did, where that is known.
@@ -107,6 +111,27 @@ impl BoardList {
         Ok(reply)
     }
 
+    /// Tells the board at a place operations whose atoms were rested.
+    pub(crate) fn tell_rested(
+        &mut self,
+        alloc: Global,
+        place: usize,
+        told: &RestedOps<'_>,
+        into: Destination,
+    ) -> Result<Option<Placed>, AllocError>
+        requires place { place < length self.old }
+        requires rested { All (λ b. AreRestedBy (program_on b) told.now) self.old }
+        ensures ok { IfOk result (λ found. MayTellAt self.old place told.now found self.new) }
+        ensures placed { IfOk result (λ found. IfSome found (IsPlaced into)) }
+        ensures none { IfOk result (λ found. IfNone found ((b : HeldBoard) → slice_get self.old place ≡ Some b
+            → RefusesThem b.replica told.now into)) }
+        ensures err { OnErr result (self.new ≡ self.old) }
+    {
+        let placed = self.boards[place].tell_rested(alloc, told, into)?;
+        keep_rested(&mut self.news, place, told, &placed);
+        Ok(placed)
+    }
+
     /// Merges operations into those of the board at a place.
     pub(crate) fn merge(
         &mut self,
@@ -148,16 +173,23 @@ impl BoardList {
         work(alloc, &mut self.boards[place], number, steps)
     }
 
-    /// Exchanges the board at a place with one of the same program. What was gained before is forgotten.
-    pub(crate) fn swap(&mut self, place: usize, board: &mut Board)
+    /// Rests the pool of the board at a place with all parts of it that are out, by so many workers.
+    pub(crate) fn rest<R: Threads + Wait + Sync>(
+        &mut self,
+        rt: &R,
+        alloc: Global,
+        place: usize,
+        workers: u32,
+        parts: u32,
+    ) -> Result<(), AllocError>
         requires place { place < length self.old }
-        requires program { AreOf board.old.accepted self.old }
-        ensures swapped { ChangesAt self.old place
-            (λ b t. (b.replica ≡ board.new.replica) × (t ≡ board.old.replica)) self.new }
-        ensures program { board.new.accepted ≡ board.old.accepted }
+        requires workers { (1 ≤ workers) × (workers ≤ MAX_WORKERS) }
+        requires parts { (1 ≤ parts) × (parts ≤ MAX_PARTS) }
+        ensures kept { ChangesAt self.old place (λ b t. KeepsTold (program_on b) b.replica t) self.new }
+        ensures rested { OnOk result (
+            ChangesAt self.old place (λ b t. ComesToRest (program_on b) b.replica t) self.new) }
     {
-        swap(&mut self.boards[place], board);
-        self.news.forget();
+        rest(rt, alloc, &mut self.boards[place], workers, parts)
     }
 
     /// What the board at the first place holds and the one at the second lacks.

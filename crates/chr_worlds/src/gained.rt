@@ -3,10 +3,11 @@ ghost use Rattle.std.specs.Prelude.{◌≡◌, List};
 ghost use Rattle.chr_replica.specs.Boards.{program_on, Held as HeldBoard};
 ghost use Rattle.chr_acts.specs.Events.{Does};
 ghost use Rattle.chr_ops.specs.Operations.{Operation};
-ghost use Rattle.chr_worlds.specs.working.Boards.{is_told_new, ChangesAt, IsTrueOn};
+ghost use Rattle.chr_worlds.specs.working.Boards.{is_told_new, ChangesAt, IsTrueOn, MayTellAt};
 
 use chr_acts::{Act, Reply};
 use chr_ops::{Added, News, Op, OpId};
+use chr_replica::{Placed, RestedOps};
 
 /// Whether a told operation was new.
 fn is_told_new(reply: &Reply) -> bool
@@ -34,5 +35,20 @@ pub(crate) fn keep_merged(news: &mut News, place: usize, ops: &[Op], reply: &Rep
 {
     if let Reply::Merged(_) = reply {
         news.gained(place, ops);
+    }
+}
+
+/// Keeps the ids of rested operations that the board at a place was to be told, where it was.
+pub(crate) fn keep_rested(
+    news: &mut News,
+    place: usize,
+    told: &RestedOps<'_>,
+    placed: &Option<Placed>,
+)
+    ensures { (bs cs : List HeldBoard) → MayTellAt bs place told.now placed.now cs → IsTrueOn news.old bs
+        → IsTrueOn news.new cs }
+{
+    if let Some(_) = placed {
+        news.gained(place, told.ops);
     }
 }

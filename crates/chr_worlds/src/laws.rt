@@ -1,5 +1,6 @@
 //! The laws of worlds. Each is a function that takes nothing and computes nothing: its contract is the law.
-ghost use Rattle.chr_worlds.specs.Laws.{RunsKeep, ReplicasAgree, PartsAgree, SyncsUnite, SyncsMeet, SyncsAreDeclared};
+ghost use Rattle.chr_worlds.specs.Laws.{RunsKeep, ReplicasAgree, PartsAgree, RestedTellsRun, SyncsUnite, SyncsMeet};
+ghost use Rattle.chr_worlds.specs.Laws.{SyncsAreDeclared};
 
 use chr_confluence::laws::parts;
 use chr_ops::exchange_laws;
@@ -12,6 +13,12 @@ pub fn runs_keep_replicas_sound()
 {
     events_keep_replicas_sound();
 }
+
+/// What [`World::tell_rested`](crate::World::tell_rested) does some events do, too: a part comes back, operations are
+/// told, a settling takes steps, and a part is leased out. So what is said of runs holds of worlds that were told so.
+pub fn rested_tells_are_runs()
+    ensures { RestedTellsRun }
+{}
 
 /// For a confluent program, whatever events led to them from replicas that were told nothing, any two replicas that
 /// hold the same operations and have settled hold the same store: the one normal form of what was told. Resting parts

@@ -8,6 +8,7 @@ mod event;
 mod gained;
 pub mod laws;
 mod playing;
+mod resting;
 mod world;
 
 pub use answer::Answer;

@@ -1,11 +1,12 @@
 //! Worlds as values.
-ghost use Rattle.std.specs.Prelude.{◌≡◌, ◌≤◌, ◌↔◌, IfOk, IfSome, IsFalse, IsSome, IsTrue, OnErr};
-ghost use Rattle.std.specs.Prelude.{replicate};
+ghost use Rattle.std.specs.Prelude.{◌≡◌, ◌≤◌, ◌↔◌, IfNone, IfOk, IfSome, IsSome, OnErr, OnOk, replicate};
 ghost use Rattle.std.specs.Arc.{arc_value};
-ghost use Rattle.chr_replica.specs.Replicas.{first};
+ghost use Rattle.chr_replica.specs.Replicas.{first, Replica};
+ghost use Rattle.chr_replica.specs.RestedOps.{AreRestedBy, IsPlaced, RefusesThem, TellsThem};
 ghost use Rattle.chr_acts.specs.Acts.{FitsAct};
 ghost use Rattle.chr_worlds.specs.Events.{FitsEvent};
 ghost use Rattle.chr_worlds.specs.Laws.{AgreeAt};
+ghost use Rattle.chr_worlds.specs.Resting.{KeepsTold, RestsAt};
 ghost use Rattle.chr_worlds.specs.Worlds.{Changes, Happens, HasReplica, IsAt};
 ghost use Rattle.chr_worlds.specs.Sharing.{shared_program};
 ghost use Rattle.chr_worlds.specs.working.Boards.{TellsNothing};
@@ -15,14 +16,14 @@ use crate::board_list::BoardList;
 use crate::event::Event;
 use chr_acts::{Act, lacks, show, show_by, summary};
 use chr_base::derivation::Step;
-use chr_base::limits::MAX_REPLICAS;
+use chr_base::limits::{MAX_PARTS, MAX_REPLICAS, MAX_WORKERS};
 use chr_join::Accepted;
 use chr_ops::{Op, Summary};
 use chr_replica::laws::one_answer;
-use chr_replica::{Board, declares, declares_all};
+use chr_replica::{Board, Destination, Placed, RestedOps, declares, declares_all};
 use std::alloc::{AllocError, Global};
 use std::marker::Model;
-use std::sync::Arc;
+use std::sync::{Arc, Wait};
 use std::thread::Threads;
 
 /// Replicas of one accepted program, which have the numbers 1, 2 and so on. Its type keeps that each is of that
@@ -93,26 +94,6 @@ impl World {
         self.program().weighed();
     }
 
-    /// Exchanges the board of the replica of a number with another one of the world's program, and answers whether
-    /// there is such a replica. The other replicas stay as they are; where there is none, nothing changes. So a board
-    /// can be worked on as one by itself, and then go back to its place. It takes no memory.
-    pub fn swap_board(&mut self, replica: u64, board: &mut Board) -> bool
-        requires { board.old.accepted ≡ self.old.accepted }
-        ensures program { self.new.accepted ≡ self.old.accepted }
-        ensures board { board.new.accepted ≡ board.old.accepted }
-        ensures there { IsTrue result ↔ HasReplica self.old.replicas replica }
-        ensures swapped { IsTrue result → Changes self.old.replicas replica
-            (λ s t. (s ≡ board.new.replica) × (t ≡ board.old.replica)) self.new.replicas }
-        ensures world { IsFalse result → self.new ≡ self.old }
-        ensures kept { IsFalse result → board.new ≡ board.old }
-    {
-        let Some(place) = self.boards.place_of(replica) else {
-            return false;
-        };
-        self.boards.swap(place, board);
-        true
-    }
-
     /// Lets an event happen. What a replica refuses is an answer, and leaves the world as it was; so is a `settle` that
     /// was stopped, whose steps stand. The event is read: what is told is copied once, into the replica.
     ///
@@ -155,6 +136,37 @@ impl World {
         };
         let reply = self.boards.tell(alloc, place, op)?;
         Ok(Answer::Replied(reply))
+    }
+
+    /// Tells a replica operations that are all new, one after the other, where some steps have made `rested` of their
+    /// atoms and of the part that is carried to them, if any: that part comes back before, and what was rested goes
+    /// into the pool, or is leased out. None, and nothing changes, where there is no such replica and where it refuses
+    /// them: where one of them is not new, they tell too many atoms, that part is not out under its number, or a lease
+    /// number is wanted and they are used up.
+    ///
+    /// # Errors
+    /// Where memory is refused. The world is as it was.
+    pub fn tell_rested(
+        &mut self,
+        alloc: Global,
+        replica: u64,
+        told: &RestedOps<'_>,
+        into: Destination,
+    ) -> Result<Option<Placed>, AllocError>
+        requires { AreRestedBy (shared_program self.old) told.now }
+        ensures program { self.new.accepted ≡ self.old.accepted }
+        ensures told { IfOk result (λ found. IfSome found (λ placed. Changes self.old.replicas replica
+            (TellsThem (shared_program self.old) told.now placed) self.new.replicas)) }
+        ensures placed { IfOk result (λ found. IfSome found (IsPlaced into)) }
+        ensures none { IfOk result (λ found. IfNone found ((s : Replica) → IsAt self.old.replicas replica s
+            → RefusesThem s told.now into)) }
+        ensures same { IfOk result (λ found. IfNone found (self.new ≡ self.old)) }
+        ensures err { OnErr result (self.new ≡ self.old) }
+    {
+        let Some(place) = self.boards.place_of(replica) else {
+            return Ok(None);
+        };
+        self.boards.tell_rested(alloc, place, told, into)
     }
 
     /// Merges operations into those of a replica. It is the event of [`Act::Merge`], without a list of their own.
@@ -209,6 +221,34 @@ impl World {
             return Answer::NoReplica;
         };
         Answer::Replied(self.boards.settle(place))
+    }
+
+    /// Rests a replica's pool, with all parts of it that are out, by so many workers, 1 to [`MAX_WORKERS`], and in so
+    /// many parts, 1 to [`MAX_PARTS`], as [`rest_board`](chr_workers::rest_board) does. Where there is no such replica
+    /// nothing happens.
+    ///
+    /// # Errors
+    /// Where memory is refused. The replica has what it was told then, but parts of it may be out.
+    pub fn rest<R: Threads + Wait + Sync>(
+        &mut self,
+        rt: &R,
+        alloc: Global,
+        replica: u64,
+        workers: u32,
+        parts: u32,
+    ) -> Result<(), AllocError>
+        requires workers { (1 ≤ workers) × (workers ≤ MAX_WORKERS) }
+        requires parts { (1 ≤ parts) × (parts ≤ MAX_PARTS) }
+        ensures program { self.new.accepted ≡ self.old.accepted }
+        ensures rests { OnOk result (
+            RestsAt (shared_program self.old) self.old.replicas replica self.new.replicas) }
+        ensures stopped { OnErr result (
+            Changes self.old.replicas replica (KeepsTold (shared_program self.old)) self.new.replicas) }
+    {
+        let Some(place) = self.boards.place_of(replica) else {
+            return Ok(());
+        };
+        self.boards.rest(rt, alloc, place, workers, parts)
     }
 
     /// Shows a replica's pool. It is the event of [`Act::Show`].

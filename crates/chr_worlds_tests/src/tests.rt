@@ -3,4 +3,5 @@ mod asking;
 mod calls;
 mod events;
 mod random_worlds;
+mod rested;
 mod worlds;

@@ -4,17 +4,13 @@ ghost use Rattle.std.specs.Prelude.{IsTrue, OnOk, OnErr};
 ghost use Rattle.std.specs.Bool.{OnTrue, OnFalse};
 ghost use Rattle.std.specs.FinMap as map;
 ghost use Rattle.chr_base.specs.FinBag.{◌⊕◌};
-ghost use Rattle.chr_base.specs.Programs.{rules_of};
-ghost use Rattle.chr_base.specs.Rewriting.{Reaches};
-ghost use Rattle.chr_base.specs.Rules.{Step as StepOf};
-ghost use Rattle.chr_base.specs.Stores.{size, store_of};
-ghost use Rattle.chr_ops.specs.Joins.{union, AreNew, IsOverLimit};
-ghost use Rattle.chr_ops.specs.Operations.{sum_of, told_atoms, IsNew, IsHeld};
+ghost use Rattle.chr_base.specs.Stores.{size};
+ghost use Rattle.chr_ops.specs.Operations.{told_atoms, IsNew, IsHeld};
 ghost use Rattle.chr_replica.specs.Leases.{AreBelow};
-ghost use Rattle.chr_replica.specs.Replicas.{IsDeclared, Tells, TellsLeased, TellsLeasedWith, TellsRested, Merges};
-ghost use Rattle.chr_replica.specs.Replicas.{Steps};
-ghost use Rattle.chr_replica.specs.declared.limits.TheConstants.{LAST_LEASE};
+ghost use Rattle.chr_replica.specs.Replicas.{IsDeclared, Tells, Merges, Steps};
 ghost use Rattle.chr_replica.specs.Refusals.{RefusesTell, RefusesMerge, RefusesStep};
+ghost use Rattle.chr_replica.specs.RestedOps.{AreRestedBy, IsOut, IsPlaced, RefusesThem, TellsThem};
+ghost use Rattle.chr_replica.specs.working.Joining.{JoinsNew, MayNotJoin};
 ghost use Rattle.chr_replica.specs.Boards.{program_on};
 ghost use Rattle.chr_ops.specs.declared.fault.AddFault.TheVariants.{Full};
 
@@ -24,7 +20,7 @@ use crate::laws::events_keep_replicas_sound;
 use crate::leases::Leases;
 use crate::limits::LAST_LEASE;
 use crate::refusal::{Limit, Refusal};
-use chr_base::atom::Atom;
+use crate::rested::{Destination, Placed, RestedOps};
 use chr_base::bag::Bag;
 use chr_base::derivation::Step;
 use chr_ops::{AddFault, Added, MAX_TOLD, Op, OpSet};
@@ -62,6 +58,40 @@ fn untold(fault: AddFault) -> Result<bool, AllocError>
     }
 }
 
+/// Operations that are all new join the set, and atoms the pool. Else nothing changes.
+fn join_pooled(
+    alloc: Global,
+    ops: &mut OpSet,
+    pool: &mut Shards,
+    told: &[Op],
+    rested: &Bag,
+) -> Result<bool, AllocError>
+    ensures weighed { pool.new.weighed ≡ pool.old.weighed }
+    ensures joins { IfOk result (λ joined. OnTrue joined (JoinsNew ops.old told.now ops.new)) }
+    ensures pool { IfOk result (λ joined. OnTrue joined (pool.new.store ≡ pool.old.store ⊕ rested.now)) }
+    ensures not { IfOk result (λ joined. OnFalse joined (MayNotJoin ops.old told.now)) }
+    ensures same_ops { IfOk result (λ joined. OnFalse joined (ops.new ≡ ops.old)) }
+    ensures same_pool { IfOk result (λ joined. OnFalse joined (pool.new ≡ pool.old)) }
+    ensures err_ops { OnErr result (ops.new ≡ ops.old) }
+    ensures err_pool { OnErr result (pool.new ≡ pool.old) }
+{
+    if !ops.are_new(alloc, told)? {
+        return Ok(false);
+    }
+    pool.insert(rested.atoms())?;
+    match ops.join(alloc, told) {
+        Ok(_count) => {
+            // The set's type keeps the limit.
+            let _told = ops.told();
+            Ok(true)
+        }
+        Err(fault) => {
+            pool.remove(rested.atoms());
+            untold(fault)
+        }
+    }
+}
+
 /// Operations that are all new join the set, and a part is leased out under the next number. Else nothing changes.
 fn join_leased(
     alloc: Global,
@@ -72,12 +102,9 @@ fn join_leased(
     part: Bag,
 ) -> Result<bool, AllocError>
     requires { AreBelow out.old next }
-    ensures new { IfOk result (λ joined. OnTrue joined (AreNew ops.old told.now)) }
-    ensures ops { IfOk result (λ joined. OnTrue joined (ops.new ≡ union ops.old told.now)) }
-    ensures within { IfOk result (λ joined. OnTrue joined (told_atoms ops.new ≤ MAX_TOLD)) }
+    ensures joins { IfOk result (λ joined. OnTrue joined (JoinsNew ops.old told.now ops.new)) }
     ensures leased { IfOk result (λ joined. OnTrue joined (out.new ≡ map.insert out.old next part)) }
-    ensures not { IfOk result (λ joined. OnFalse joined
-        ((¬ (AreNew ops.old told.now)) ⊎ IsOverLimit ops.old told.now)) }
+    ensures not { IfOk result (λ joined. OnFalse joined (MayNotJoin ops.old told.now)) }
     ensures same_ops { IfOk result (λ joined. OnFalse joined (ops.new ≡ ops.old)) }
     ensures same_out { IfOk result (λ joined. OnFalse joined (out.new ≡ out.old)) }
     ensures err_ops { OnErr result (ops.new ≡ ops.old) }
@@ -166,69 +193,42 @@ impl Board {
         }
     }
 
-    /// Tells operations that are all new, where some steps have made `rested` of their atoms: that goes into the pool
-    /// in the place of these. False, and nothing changes, where one of them is not new, or where more than
-    /// [`MAX_TOLD`](chr_ops::MAX_TOLD) atoms would be told. It does not look at their atoms.
-    pub fn tell_rested(
+    /// Tells operations whose carried part, if any, is out, and puts what was rested into the pool.
+    fn tell_in_pool(
         &mut self,
         alloc: Global,
-        ops: &[Op],
-        rested: &[Atom],
-    ) -> Result<bool, AllocError>
-        requires declared { All (IsDeclared (program_on self.old)) ops.now }
-        requires reached { Reaches (StepOf (rules_of (program_on self.old))) (sum_of ops.now) (store_of rested.now) }
+        told: &RestedOps<'_>,
+    ) -> Result<Option<Placed>, AllocError>
+        requires out { IsOut self.old.replica.out told.now.carried }
+        requires rested { AreRestedBy (program_on self.old) told.now }
         ensures program { self.new.accepted ≡ self.old.accepted }
-        ensures told { IfOk result (λ told. OnTrue told
-            (TellsRested (program_on self.old) self.old.replica ops.now self.new.replica)) }
-        ensures not { IfOk result (λ told. OnFalse told ((¬ (AreNew self.old.replica.operations ops.now))
-            ⊎ IsOverLimit self.old.replica.operations ops.now)) }
-        ensures same { IfOk result (λ told. OnFalse told (self.new ≡ self.old)) }
+        ensures told { IfOk result (λ found. IfSome found (λ placed.
+            TellsThem (program_on self.old) told.now placed self.old.replica self.new.replica)) }
+        ensures placed { IfOk result (λ found. IfSome found (IsPlaced Destination.Pool)) }
+        ensures none { IfOk result (λ found. IfNone found (RefusesThem self.old.replica told.now Destination.Pool)) }
+        ensures same { IfOk result (λ found. IfNone found (self.new ≡ self.old)) }
         ensures err { OnErr result (self.new ≡ self.old) }
     {
-        if !self.ops.are_new(alloc, ops)? {
-            return Ok(false);
+        if !join_pooled(alloc, &mut self.ops, &mut self.pool, told.ops, told.rested)? {
+            return Ok(None);
         }
-        self.pool.insert(rested)?;
-        match self.ops.join(alloc, ops) {
-            Ok(_count) => {
-                // The set's type keeps the limit.
-                let _told = self.ops.told();
-                Ok(true)
-            }
-            Err(fault) => {
-                self.pool.remove(rested);
-                untold(fault)
-            }
-        }
+        self.out.leave_out(told.carried);
+        Ok(Some(Placed::InPool))
     }
 
-    /// Whether this is the part that is leased out under a number. It takes no memory.
-    pub fn has_leased(&self, number: u64, part: &Bag) -> bool
-        ensures { IsTrue result ↔ (map.get self.now.replica.out number ≡ Some part.now) }
-    {
-        match self.out.get(number) {
-            Some(out) => out.is_same(part),
-            None => false,
-        }
-    }
-
-    /// Tells operations that are all new, where some steps have made `rested` of their atoms: that is leased out,
-    /// under the number that is answered. None, and nothing changes, where one of them is not new, where more than
-    /// [`MAX_TOLD`](chr_ops::MAX_TOLD) atoms would be told, and where the lease numbers are used up. It does not look
-    /// at their atoms.
-    pub fn tell_leased(
+    /// Tells operations whose carried part, if any, is out, and leases out what was rested.
+    fn tell_on_lease(
         &mut self,
         alloc: Global,
-        ops: &[Op],
-        rested: Bag,
-    ) -> Result<Option<u64>, AllocError>
-        requires declared { All (IsDeclared (program_on self.old)) ops.now }
-        requires reached { Reaches (StepOf (rules_of (program_on self.old))) (sum_of ops.now) rested }
+        told: &RestedOps<'_>,
+    ) -> Result<Option<Placed>, AllocError>
+        requires out { IsOut self.old.replica.out told.now.carried }
+        requires rested { AreRestedBy (program_on self.old) told.now }
         ensures program { self.new.accepted ≡ self.old.accepted }
-        ensures told { IfOk result (λ found. IfSome found (λ number.
-            TellsLeased (program_on self.old) self.old.replica ops.now rested number self.new.replica)) }
-        ensures none { IfOk result (λ found. IfNone found ((LAST_LEASE < self.old.replica.next)
-            ⊎ (¬ (AreNew self.old.replica.operations ops.now)) ⊎ IsOverLimit self.old.replica.operations ops.now)) }
+        ensures told { IfOk result (λ found. IfSome found (λ placed.
+            TellsThem (program_on self.old) told.now placed self.old.replica self.new.replica)) }
+        ensures placed { IfOk result (λ found. IfSome found (IsPlaced Destination.Lease)) }
+        ensures none { IfOk result (λ found. IfNone found (RefusesThem self.old.replica told.now Destination.Lease)) }
         ensures same { IfOk result (λ found. IfNone found (self.new ≡ self.old)) }
         ensures err { OnErr result (self.new ≡ self.old) }
     {
@@ -236,44 +236,49 @@ impl Board {
         if number > LAST_LEASE {
             return Ok(None);
         }
-        if !join_leased(alloc, &mut self.ops, &mut self.out, number, ops, rested)? {
+        let part = told.rested.copy(alloc)?;
+        if !join_leased(alloc, &mut self.ops, &mut self.out, number, told.ops, part)? {
             return Ok(None);
         }
+        self.out.leave_out(told.carried);
         self.next += 1;
-        Ok(Some(number))
+        Ok(Some(Placed::Leased(number)))
     }
 
-    /// The same, where these steps have taken the part that is out under a number, too, which so comes back. None, and
-    /// nothing changes, also where that part is not out under the number.
-    pub fn tell_leased_with(
+    /// Tells operations that are all new, where some steps have made `rested` of their atoms and of the part that is
+    /// carried to them, if any: that part comes back, and what was rested goes into the pool, or is leased out. None,
+    /// and nothing changes, where one of them is not new, where more than [`MAX_TOLD`](chr_ops::MAX_TOLD) atoms would
+    /// be told, where that part is not out under its number, and where a lease number is wanted and they are used up.
+    /// It does not look at the operations' atoms.
+    pub fn tell_rested(
         &mut self,
         alloc: Global,
-        out: u64,
-        part: &Bag,
-        ops: &[Op],
-        rested: Bag,
-    ) -> Result<Option<u64>, AllocError>
-        requires declared { All (IsDeclared (program_on self.old)) ops.now }
-        requires reached { Reaches (StepOf (rules_of (program_on self.old))) (part.now ⊕ sum_of ops.now) rested }
+        told: &RestedOps<'_>,
+        into: Destination,
+    ) -> Result<Option<Placed>, AllocError>
+        requires { AreRestedBy (program_on self.old) told.now }
         ensures program { self.new.accepted ≡ self.old.accepted }
-        ensures told { IfOk result (λ found. IfSome found (λ number.
-            TellsLeasedWith (program_on self.old) self.old.replica out ops.now rested number self.new.replica)) }
-        ensures none { IfOk result (λ found. IfNone found ((¬ (map.get self.old.replica.out out ≡ Some part.now))
-            ⊎ (LAST_LEASE < self.old.replica.next) ⊎ (¬ (AreNew self.old.replica.operations ops.now))
-            ⊎ IsOverLimit self.old.replica.operations ops.now)) }
+        ensures told { IfOk result (λ found. IfSome found (λ placed.
+            TellsThem (program_on self.old) told.now placed self.old.replica self.new.replica)) }
+        ensures placed { IfOk result (λ found. IfSome found (IsPlaced into)) }
+        ensures none { IfOk result (λ found. IfNone found (RefusesThem self.old.replica told.now into)) }
         ensures same { IfOk result (λ found. IfNone found (self.new ≡ self.old)) }
         ensures err { OnErr result (self.new ≡ self.old) }
     {
-        let number = self.next;
-        if !self.has_leased(out, part) || number > LAST_LEASE {
+        if !self.out.have(told.carried) {
             return Ok(None);
         }
-        if !join_leased(alloc, &mut self.ops, &mut self.out, number, ops, rested)? {
-            return Ok(None);
+        match into {
+            Destination::Pool => self.tell_in_pool(alloc, told),
+            Destination::Lease => self.tell_on_lease(alloc, told),
         }
-        self.out.remove(out);
-        self.next += 1;
-        Ok(Some(number))
+    }
+
+    /// Whether this is the part that is leased out under a number. It takes no memory.
+    pub fn has_leased(&self, number: u64, part: &Bag) -> bool
+        ensures { IsTrue result ↔ (map.get self.now.replica.out number ≡ Some part.now) }
+    {
+        self.out.has(number, part)
     }
 
     /// Takes a named step in the pool.

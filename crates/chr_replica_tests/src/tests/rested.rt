@@ -6,12 +6,13 @@ ghost use Rattle.chr_base.specs.Rewriting.{Reaches};
 ghost use Rattle.chr_base.specs.Rules.{Step};
 ghost use Rattle.chr_replica.specs.Boards.{program_on};
 ghost use Rattle.chr_replica.specs.Replicas.{IsDeclared};
+ghost use Rattle.chr_replica.specs.RestedOps.{carried_store};
 
 use crate::tests::boards::settles;
 use crate::tests::texts::{accepted, op};
 use chr_base::bag::Bag;
 use chr_ops::{Added, Op};
-use chr_replica::Board;
+use chr_replica::{Board, Destination, LeasedPart, Placed, RestedOps};
 use chr_testing::texts::MINIMUM;
 use std::alloc::Global;
 use std::process::Abort;
@@ -73,49 +74,43 @@ fn one(rt: &impl Abort, alloc: Global, op: Op) -> Vec<Op>
     list
 }
 
-/// Whether a board is told an operation whose atoms became these, which go into its pool.
-fn goes_in(rt: &impl Abort, alloc: Global, board: &mut Board, op: &Op, end: &Bag) -> bool
-    requires declared { IsDeclared (program_on board.old) op.now }
-    requires reached { Reaches (Step (rules_of (program_on board.old))) op.now.1 end.now }
-    ensures program { board.new.accepted ≡ board.old.accepted }
-{
-    let ops = one(rt, alloc, op.copy(alloc).expect(rt, "memory"));
-    board
-        .tell_rested(alloc, &ops, end.atoms())
-        .expect(rt, "memory")
-}
-
-/// The number under which a board leases out what became of an operation, if it is told that.
-fn goes_out(rt: &impl Abort, alloc: Global, board: &mut Board, op: &Op, end: &Bag) -> Option<u64>
-    requires declared { IsDeclared (program_on board.old) op.now }
-    requires reached { Reaches (Step (rules_of (program_on board.old))) op.now.1 end.now }
-    ensures program { board.new.accepted ≡ board.old.accepted }
-{
-    let ops = one(rt, alloc, op.copy(alloc).expect(rt, "memory"));
-    let part = end.copy(alloc).expect(rt, "memory");
-    board.tell_leased(alloc, &ops, part).expect(rt, "memory")
-}
-
-/// The number under which a board leases out what became of an operation and of the part with another number, if it is
-/// told that.
-fn goes_on(
+/// Where a board puts what became of an operation and of the part that is carried to it, if it is told that.
+fn places(
     rt: &impl Abort,
     alloc: Global,
     board: &mut Board,
-    number: u64,
-    part: &Bag,
     op: &Op,
+    carried: Option<LeasedPart<'_>>,
     end: &Bag,
-) -> Option<u64>
+    into: Destination,
+) -> Option<Placed>
     requires declared { IsDeclared (program_on board.old) op.now }
-    requires reached { Reaches (Step (rules_of (program_on board.old))) (part.now ⊕ op.now.1) end.now }
+    requires reached { Reaches (Step (rules_of (program_on board.old))) (carried_store carried ⊕ op.now.1) end.now }
     ensures program { board.new.accepted ≡ board.old.accepted }
 {
     let ops = one(rt, alloc, op.copy(alloc).expect(rt, "memory"));
-    let more = end.copy(alloc).expect(rt, "memory");
-    board
-        .tell_leased_with(alloc, number, part, &ops, more)
-        .expect(rt, "memory")
+    let told = RestedOps {
+        ops: &ops,
+        carried,
+        rested: end,
+    };
+    board.tell_rested(alloc, &told, into).expect(rt, "memory")
+}
+
+/// Where it puts what became of an operation to which nothing is carried.
+fn places_alone(
+    rt: &impl Abort,
+    alloc: Global,
+    board: &mut Board,
+    op: &Op,
+    end: &Bag,
+    into: Destination,
+) -> Option<Placed>
+    requires declared { IsDeclared (program_on board.old) op.now }
+    requires reached { Reaches (Step (rules_of (program_on board.old))) op.now.1 end.now }
+    ensures program { board.new.accepted ≡ board.old.accepted }
+{
+    places(rt, alloc, board, op, None, end, into)
 }
 
 #[test]
@@ -125,36 +120,96 @@ fn what_was_rested_goes_into_the_pool(rt: HostRuntime) {
     let first = op(&rt, alloc, MINIMUM, 1, "min(5), min(3)");
     tell(&rt, alloc, &mut spare, &first);
     let end = rested(&rt, alloc, &mut spare, first.bag());
-    assert!(rt; goes_in(&rt, alloc, &mut board, &first, &end), "not told");
-    assert!(rt;
-        !goes_in(&rt, alloc, &mut board, &first, &end),
-        "told again"
-    );
+    let told = places_alone(&rt, alloc, &mut board, &first, &end, Destination::Pool);
+    assert!(rt; told == Some(Placed::InPool), "not told");
+    let again = places_alone(&rt, alloc, &mut board, &first, &end, Destination::Pool);
+    assert!(rt; again.is_none(), "told again");
     settles(&rt, alloc, &mut board, 0, "min(3)");
+}
+
+/// A board, the part that it has leased out under 1, an operation that it was not told, and what becomes of both.
+#[derive(Drop)]
+struct Carrying {
+    board: Board,
+    part: Bag,
+    second: Op,
+    end: Bag,
+}
+
+/// The part is what became of another operation.
+fn part_out(rt: &(impl Abort + Threads + Sync), alloc: Global) -> Carrying
+    ensures declared { IsDeclared (program_on result.board) result.second }
+    ensures reached { Reaches (Step (rules_of (program_on result.board))) (result.part ⊕ result.second.1) result.end }
+{
+    let (mut board, mut spare) = twins(rt, alloc, MINIMUM);
+    let first = op(rt, alloc, MINIMUM, 1, "min(5), min(3)");
+    tell(rt, alloc, &mut spare, &first);
+    let part = rested(rt, alloc, &mut spare, first.bag());
+    let out = places_alone(rt, alloc, &mut board, &first, &part, Destination::Lease);
+    assert!(rt; out == Some(Placed::Leased(1)), "not leased out");
+    let second = op(rt, alloc, MINIMUM, 2, "min(4), min(1)");
+    tell(rt, alloc, &mut spare, &second);
+    let both = joined(rt, alloc, &part, second.bag());
+    let end = rested(rt, alloc, &mut spare, &both);
+    Carrying {
+        board,
+        part,
+        second,
+        end,
+    }
+}
+
+/// Where the board puts what becomes of both, if the part is out under that number.
+fn places_both(
+    rt: &impl Abort,
+    alloc: Global,
+    carrying: &mut Carrying,
+    number: u64,
+    into: Destination,
+) -> Option<Placed>
+    requires declared { IsDeclared (program_on carrying.old.board) carrying.old.second }
+    requires reached { Reaches (Step (rules_of (program_on carrying.old.board)))
+        (carrying.old.part ⊕ carrying.old.second.1) carrying.old.end }
+    ensures declared { IsDeclared (program_on carrying.new.board) carrying.new.second }
+    ensures reached { Reaches (Step (rules_of (program_on carrying.new.board)))
+        (carrying.new.part ⊕ carrying.new.second.1) carrying.new.end }
+{
+    let carried = LeasedPart {
+        number,
+        part: &carrying.part,
+    };
+    places(
+        rt,
+        alloc,
+        &mut carrying.board,
+        &carrying.second,
+        Some(carried),
+        &carrying.end,
+        into,
+    )
 }
 
 #[test]
 fn a_leased_part_goes_on_with_more(rt: HostRuntime) {
     let alloc = rt.alloc();
-    let (mut board, mut spare) = twins(&rt, alloc, MINIMUM);
-    let first = op(&rt, alloc, MINIMUM, 1, "min(5), min(3)");
-    tell(&rt, alloc, &mut spare, &first);
-    let part = rested(&rt, alloc, &mut spare, first.bag());
-    assert!(rt;
-        goes_out(&rt, alloc, &mut board, &first, &part) == Some(1),
-        "not leased out"
-    );
-    let second = op(&rt, alloc, MINIMUM, 2, "min(4), min(1)");
-    tell(&rt, alloc, &mut spare, &second);
-    let both = joined(&rt, alloc, &part, second.bag());
-    let end = rested(&rt, alloc, &mut spare, &both);
-    let early = goes_on(&rt, alloc, &mut board, 2, &part, &second, &end);
+    let mut carrying = part_out(&rt, alloc);
+    let early = places_both(&rt, alloc, &mut carrying, 2, Destination::Lease);
     assert!(rt; early.is_none(), "no part is out under 2");
-    let told = goes_on(&rt, alloc, &mut board, 1, &part, &second, &end);
-    assert!(rt; told == Some(2), "not leased out");
-    let late = goes_on(&rt, alloc, &mut board, 1, &part, &second, &end);
+    let told = places_both(&rt, alloc, &mut carrying, 1, Destination::Lease);
+    assert!(rt; told == Some(Placed::Leased(2)), "not leased out");
+    let late = places_both(&rt, alloc, &mut carrying, 1, Destination::Lease);
     assert!(rt; late.is_none(), "the part is out no more");
-    assert!(rt; board.leases() == 1, "another number of leases");
-    assert!(rt; board.recall(2).is_ok(), "not recalled");
-    settles(&rt, alloc, &mut board, 0, "min(1)");
+    assert!(rt; carrying.board.leases() == 1, "another number of leases");
+    assert!(rt; carrying.board.recall(2).is_ok(), "not recalled");
+    settles(&rt, alloc, &mut carrying.board, 0, "min(1)");
+}
+
+#[test]
+fn a_leased_part_comes_back_with_more(rt: HostRuntime) {
+    let alloc = rt.alloc();
+    let mut carrying = part_out(&rt, alloc);
+    let told = places_both(&rt, alloc, &mut carrying, 1, Destination::Pool);
+    assert!(rt; told == Some(Placed::InPool), "not told");
+    assert!(rt; carrying.board.leases() == 0, "a part is out");
+    settles(&rt, alloc, &mut carrying.board, 0, "min(1)");
 }

@@ -1,12 +1,12 @@
 -- The replicas that answer command lines: what they hold, and what is kept of them from line to line.
-use Rattle.std.specs.Prelude.{◌≡◌, ◌⊎◌, ℕ, Bool, true, false, List, All, map, ⊤}
+use Rattle.std.specs.Prelude.{◌≡◌, ℕ, Bool, true, false, List, All, map, ⊤}
 use Rattle.std.specs.FinMap as finite
 use Rattle.chr_base.specs.declared.program.Program.{Program}
 use Rattle.chr_ops.specs.Operations.{Operation, Operations}
 use Rattle.chr_ops.specs.Summaries.{IsApart}
 use Rattle.chr_replica.specs.Replicas.{Replica, IsSettled, IsSound, TellsEach}
 use Rattle.chr_acts.specs.declared.reply.Reply.TheVariants as reply
-use Rattle.chr_worlds.specs.Worlds.{Replicas, Changes, HasReplica, IsAt}
+use Rattle.chr_worlds.specs.Worlds.{Replicas, Changes, IsAt}
 use Rattle.chr_worlds.specs.Sharing.{shared_program}
 use Rattle.chr_worlds.specs.declared.answer.Answer.{Answer}
 use Rattle.chr_worlds.specs.declared.answer.Answer.TheVariants as answer
@@ -42,16 +42,6 @@ AreIdle s r = (t : Replica) → IsAt s.world.replicas r t → IsIdle t
 -- nor is any then, and it is at rest
 abbrev pub AreAtRest : Service → ℕ → Type 0
 AreAtRest s r = (t : Replica) → IsAt s.world.replicas r t → IsSettled (served s) t
-
--- a replica holds what it held, and has come to rest
-pub record ComesToRest (p : Program) (s t : Replica) : Type 0 where
-  pub operations : t.operations ≡ s.operations
-  pub sound : IsSound p t
-  pub settled : IsSettled p t
-
--- so does the replica of a number, and no other changes; or there is none
-abbrev pub RestsAt : Program → Replicas → ℕ → Replicas → Type 0
-RestsAt p w r v = ((¬ HasReplica w r) × (v ≡ w)) ⊎ Changes w r (ComesToRest p) v
 
 -- A replica is told these operations, one after the other. Then steps and leases change what is kept of them, not the
 -- operations, and it stays sound.

@@ -1,6 +1,6 @@
 -- The boards of a world as a list.
-use Rattle.std.specs.Prelude.{◌≡◌, ℕ, List, [], ◌∷◌, ◌++◌, map as each, All, Some, slice_get, slice_set, Bool}
-use Rattle.std.specs.Prelude.{true, false, ⊤}
+use Rattle.std.specs.Prelude.{◌≡◌, ℕ, List, [], ◌∷◌, ◌++◌, map as each, All, Option, Some, None, slice_get, slice_set}
+use Rattle.std.specs.Prelude.{Bool, true, false, ⊤}
 use Rattle.std.specs.FinMap as map
 use Rattle.chr_base.specs.Programs.{rules_of}
 use Rattle.chr_base.specs.declared.derivation.Step.{Step}
@@ -16,6 +16,9 @@ use Rattle.chr_ops.specs.Summaries.{CoversJust, lacking}
 use Rattle.chr_rewrite.specs.Derivations.{IsDerivation}
 use Rattle.chr_replica.specs.Boards.{Held, program_on}
 use Rattle.chr_replica.specs.Replicas.{Replica}
+use Rattle.chr_replica.specs.RestedOps.{TellsThem}
+use Rattle.chr_replica.specs.declared.rested.Placed.{Placed}
+use Rattle.chr_replica.specs.declared.rested.RestedOps.{RestedOps}
 use Rattle.chr_acts.specs.declared.act.Act.{Act}
 use Rattle.chr_acts.specs.declared.act.Act.TheVariants as act
 use Rattle.chr_acts.specs.declared.reply.Reply.{Reply}
@@ -66,6 +69,11 @@ pub record GainsAnswer (p : Program) (w : Replicas) (e : Event) (xs ys : List An
   pub answer : Answer
   pub happens : Happens p w e answer v
   pub answers : ys ≡ xs ++ answer ∷ []
+
+-- the board at a place is told rested operations, where it is told where these went; else all boards stay as they are
+abbrev pub MayTellAt : List Held → ℕ → RestedOps → Option Placed → List Held → Type 0
+MayTellAt bs place r (Some x) cs = ChangesAt bs place (λ b t. TellsThem (program_on b) r x b.replica t) cs
+MayTellAt bs place r None cs = cs ≡ bs
 
 -- ---- what boards gained
 

@@ -1,6 +1,6 @@
 use Rattle.chr_replica.proofs.Keeping.{first_is_sound, tell_keeps, merge_keeps, step_keeps, take_keeps}
 use Rattle.chr_replica.proofs.Keeping.{take_parts_keeps, put_keeps, recall_keeps, settle_keeps}
-use Rattle.chr_replica.proofs.RestedTells.{rested_keeps, leased_keeps, leased_with_keeps}
+use Rattle.chr_replica.proofs.RestedTells.{rested_keeps}
 use Rattle.chr_replica.proofs.laws.events_keep_replicas_sound.Goals as goal
 
 pub returns-clause-first : goal.returns-clause-first
@@ -31,11 +31,5 @@ pub returns-clause-settle : goal.returns-clause-settle
 returns-clause-settle c = λ p n s t h sound. settle_keeps p n s t h sound
 
 pub returns-clause-tell_rested : goal.returns-clause-tell_rested
-returns-clause-tell_rested c = λ p ops s t h sound. rested_keeps p s ops t h sound
-
-pub returns-clause-tell_leased : goal.returns-clause-tell_leased
-returns-clause-tell_leased c = λ p ops part number s t h sound. leased_keeps p s ops part number t h sound
-
-pub returns-clause-tell_leased_with : goal.returns-clause-tell_leased_with
-returns-clause-tell_leased_with c = λ p out ops part number s t h sound.
-    leased_with_keeps p s out ops part number t h sound
+returns-clause-tell_rested c = λ p carried ops rested lease s t h sound.
+    rested_keeps p s carried ops rested lease t h sound

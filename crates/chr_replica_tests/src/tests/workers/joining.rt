@@ -115,15 +115,6 @@ fn pools_come_to_the_store_of_one(rt: HostRuntime) {
 }
 
 #[test]
-fn a_spare_board_is_in_one_pool(rt: HostRuntime) {
-    for (text, _) in PROGRAMS {
-        let program = accepted_in(&rt, rt.alloc(), text, MOST_POOLS);
-        let spare = Board::spare(rt.alloc(), program).expect(&rt, "memory");
-        assert!(rt; spare.pools() == 1, "{text}");
-    }
-}
-
-#[test]
 fn parts_come_to_the_store_of_one_thread(rt: HostRuntime) {
     for (text, _) in PROGRAMS {
         let program = accepted(&rt, rt.alloc(), text);

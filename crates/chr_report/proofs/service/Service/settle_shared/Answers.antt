@@ -11,24 +11,24 @@ use Rattle.chr_report.proofs.service.Service.settle_shared.Goals as goal
 pub returns-clause-ready : goal.returns-clause-ready
 returns-clause-ready g c =
     let w = c.args.self.now.world.replicas in
-    let v = c.rest_replica.new.world.replicas in
+    let v = c.rest.new.self.replicas in
     let p = served c.args.self.now in
     subst (λ u. AreBetweenLines (shared_program u) u.replicas) (sym (c.forget_parts.ensures ∙ c.note_waiting.ensures))
-    (ready_for c.args.self.now.world.accepted c.rest_replica.new.world.accepted v c.rest_replica.ensures.program
-    (rests_ready p w v c.args.replica c.in_ok-rest_replica.ensures.rests c.requires))
+    (ready_for c.args.self.now.world.accepted c.rest.new.self.accepted v c.rest.ensures.program
+    (rests_ready p w v c.args.replica c.in_ok-rest.ensures.rests c.requires))
 
 pub returns-clause-operations : goal.returns-clause-operations
 returns-clause-operations g c =
     ap (λ w. operations_held w.replicas) (c.forget_parts.ensures ∙ c.note_waiting.ensures)
-    ∙ rests_held (served c.args.self.now) c.args.self.now.world.replicas c.rest_replica.new.world.replicas
-    c.args.replica c.in_ok-rest_replica.ensures.rests
+    ∙ rests_held (served c.args.self.now) c.args.self.now.world.replicas c.rest.new.self.replicas
+    c.args.replica c.in_ok-rest.ensures.rests
 
 pub returns-clause-rests : goal.returns-clause-rests
 returns-clause-rests g c =
     let w = c.args.self.now.world in
-    let v = c.rest_replica.new.world in
+    let v = c.rest.new.self in
     subst (λ u. (t : Replica) → IsAt u.replicas c.args.replica t → IsSettled (shared_program u) t)
     (sym (c.forget_parts.ensures ∙ c.note_waiting.ensures))
     (subst (λ a. (t : Replica) → IsAt v.replicas c.args.replica t → IsSettled (program_in a) t)
-    (sym c.rest_replica.ensures.program)
-    (rests_at (shared_program w) w.replicas v.replicas c.args.replica c.in_ok-rest_replica.ensures.rests))
+    (sym c.rest.ensures.program)
+    (rests_at (shared_program w) w.replicas v.replicas c.args.replica c.in_ok-rest.ensures.rests))
