@@ -474,21 +474,28 @@ def refusal_or_count(program: Program, by: JointLists | SortedLists, overlap: Ov
     return count
 
 
-def smallest_failing(program: Program, most: int) -> tuple[Failing, Failing] | None:
-    """Of the first overlap with a failing joint case the first one, and that with the smallest store: of fewest
-    different values, and then the least. None where there is no such overlap."""
-    by = JointLists(program)
+def size(program: Program, case: Failing) -> tuple[int, int, list[tuple[int, tuple[Term, ...]]]]:
+    """The number of atoms of its store, then that of different values, then the atoms in order."""
     places = list(program.symbols)
+    values = {value for atom in case.store for value in atom.terms}
+    atoms = [(places.index((atom.name, len(atom.terms))), atom.terms) for atom in case.store]
+    return len(atoms), len(values), atoms
 
-    def size(case: Failing) -> tuple[int, list[tuple[int, tuple[Term, ...]]]]:
-        values = {value for atom in case.store for value in atom.terms}
-        return len(values), [(places.index((atom.name, len(atom.terms))), atom.terms) for atom in case.store]
 
-    for overlap in overlaps(program):
-        found = [case for at in cases(by, overlap, most) if (case := failing(program, overlap, at)) is not None]
-        if found:
-            return found[0], min(found, key=size)
-    return None
+def smallest_failing(program: Program, most: int) -> tuple[Failing, Failing] | None:
+    """Of the first overlap with a failing joint case the first one; and of all overlaps the failing one with the
+    smallest store. None where there is no such overlap."""
+    by = JointLists(program)
+    of_overlaps = (
+        [case for at in cases(by, overlap, most) if (case := failing(program, overlap, at)) is not None]
+        for overlap in overlaps(program)
+    )
+    found = [case for failing_cases in of_overlaps for case in failing_cases]
+    return (found[0], min(found, key=lambda case: size(program, case))) if found else None
+
+
+def is_at_rest(program: Program, store: list[Pattern]) -> bool:
+    return next(steps(program, store), None) is None
 
 
 def verdict(program: Program, most: int, wide: bool = False) -> str:

@@ -13,7 +13,8 @@ from pathlib import Path
 
 from chrrep.node import program_path
 from random_programs import program
-from slow_verdict import TooManyTypes, TooSlow, smallest_failing, store_text
+from rule_texts import read_program, replaced, store
+from slow_verdict import Pattern, Program, TooManyTypes, TooSlow, is_at_rest, smallest_failing, store_text
 
 TEXTS = Path(__file__).resolve().parent / "explanations"
 EXAMPLES = Path(__file__).resolve().parents[2] / "examples"
@@ -40,10 +41,14 @@ IN_CYCLE = re.compile(r"  (?:once|(\d+) times) rule (\d+): ")
 MOST_TYPES = 200
 """More order types of one overlap are not looked at."""
 WAYS = r"(.*)\nOne way:\n(?:  \d.*\n|  and .*\n)*  end: (.*)\nThe other way:\n(?:  \d.*\n|  and .*\n)*  end: (.*)\n"
-FIRST = re.compile(f"The store: {WAYS}")
-SMALLEST = re.compile(f"The smallest store with which these heads come to two ends: {WAYS}")
+SHOWN = re.compile(f"The store: {WAYS}")
+FIRST = re.compile("^A check tells of the first case:\n  (.*)$", re.M)
 
 PROPOSED = re.compile(r"with this in place of rule (\d+):\n((?:  .*\n)+)")
+KEPT = re.compile(
+    PROPOSED.pattern + r"(?:Kept by this one alone: (.*)\n)?(?:Kept twice by this one alone: (.*)\n)?(No small store)?"
+)
+NO_CHANGE = "No change of one rule was found with which the program is accepted.\n"
 
 PAIR = re.compile(r"^  rules (\d+) (\d+): overlaps (\d+), cases (\d+)$", re.M)
 EDGE = re.compile(r'^  rule(\d+) -- rule(\d+) \[label="overlaps (\d+), cases (\d+)"\];$', re.M)
@@ -168,7 +173,7 @@ class Proposals(unittest.TestCase):
 
 class Smallest(unittest.TestCase):
     def test_random_programs(self) -> None:
-        """Beside the first failing case of an overlap the smallest one is told, where that is another."""
+        """The smallest failing case is shown, and beside it what a check tells of the first, where that is another."""
         chance = random.Random(SEED)
         kinds: Counter[str] = Counter()
         for _ in range(PROGRAMS):
@@ -184,10 +189,68 @@ class Smallest(unittest.TestCase):
             with self.subTest(program=str(made)):
                 assert expected is not None
                 first, smallest = ((store_text(list(case.store)), case.left, case.right) for case in expected)
-                self.assertEqual(FIRST.findall(told), [first])
-                self.assertEqual(SMALLEST.findall(told), [] if smallest == first else [smallest])
+                self.assertEqual(SHOWN.findall(told), [smallest])
+                check = run("check", str(made).encode())[1].removeprefix("refused 21: ").rstrip()
+                self.assertEqual(FIRST.findall(told), [] if smallest == first else [check])
                 kinds["the first" if smallest == first else "another"] += 1
         self.assertGreater(min(kinds["the first"], kinds["another"]), PROGRAMS // 100, kinds)
+
+
+def small_atoms(name: str, arity: int, values: int) -> list[Pattern]:
+    return [Pattern(name, chosen) for chosen in itertools.product(range(values), repeat=arity)]
+
+
+class Staying(unittest.TestCase):
+    """What is told to stay, by the slow program's definition of rest."""
+
+    def check_kept(self, made: Program, told: str) -> int:
+        """What one proposal alone keeps stays with it, and goes with the others and by the program itself."""
+        proposals = KEPT.findall(told)
+        changed = [replaced(made, int(number), rules) for number, rules, *_ in proposals]
+        for place, (_, _, apart, twice, none) in enumerate(proposals):
+            others = [made, *(other for other in changed if other is not changed[place])]
+            self.assertEqual(bool(none), not apart and not twice)
+            for kept in [text for text in (apart, twice) if text]:
+                atoms = store(kept)
+                self.assertEqual(len(set(atoms)) < len(atoms), kept == twice)
+                self.assertTrue(is_at_rest(changed[place], atoms), kept)
+                self.assertFalse(any(is_at_rest(other, atoms) for other in others), kept)
+            if not apart:
+                self.check_none_alone(made, int(proposals[place][0]), changed[place], others)
+        return len(proposals)
+
+    def check_none_alone(self, made: Program, number: int, changed: Program, others: list[Program]) -> None:
+        """No two different facts of the changed rule's symbols stay with it alone."""
+        symbols = {(head.name, len(head.terms)) for head in made.rules[number - 1].heads}
+        atoms = [atom for name, arity in symbols for atom in small_atoms(name, arity, 2)]
+        for pair in itertools.combinations(atoms, 2):
+            if is_at_rest(changed, list(pair)):
+                self.assertTrue(any(is_at_rest(other, list(pair)) for other in others), pair)
+
+    def test_random_programs(self) -> None:
+        chance = random.Random(SEED)
+        kinds: Counter[str] = Counter()
+        for _ in range(PROGRAMS):
+            made = program(chance)
+            told = run("explain", str(made).encode())[1]
+            with self.subTest(program=str(made)):
+                if told.startswith("refused 21"):
+                    found = self.check_kept(made, told)
+                    self.assertEqual(not found, NO_CHANGE in told)
+                    kinds["proposals"] += found
+                    kinds["no change"] += not found
+        self.assertGreater(min(kinds["proposals"], kinds["no change"]), PROGRAMS // 100, kinds)
+
+    def test_examples(self) -> None:
+        """Of all texts here and in the examples folder."""
+        told = 0
+        for file in [*sorted(TEXTS.glob("*.chr")), *sorted(EXAMPLES.glob("*.chr"))]:
+            answer = run("explain", file.read_bytes())[1]
+            if PROPOSED.search(answer):
+                made = read_program(file.read_text())
+                with self.subTest(file.name):
+                    told += self.check_kept(made, answer)
+        self.assertGreater(told, 30)
 
 
 class Drawings(unittest.TestCase):

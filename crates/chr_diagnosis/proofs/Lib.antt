@@ -2,5 +2,7 @@ mod Passing
 mod Counting
 pub mod Verdicts
 mod Proposed
-mod FirstOverlaps
 mod FoundCases
+mod SmallerCases
+mod FirstElements
+mod KeptAlone

@@ -1,11 +1,11 @@
 -- What is told of a text is true of it.
-use Rattle.std.specs.Prelude.{◌≡◌, ℕ, ◌⊎◌, List, [], ◌∷◌, ◌++◌, length, map, take, Ok, IfSome}
+use Rattle.std.specs.Prelude.{◌≡◌, ℕ, ◌⊎◌, List, [], ◌∷◌, ◌++◌, ◌≤◌, length, map, take, Ok, IfSome}
 use Rattle.std.specs.List.{All}
 use Rattle.chr_base.specs.declared.program.Program.{Program}
 use Rattle.chr_base.specs.declared.rule.Rule.{Rule}
 use Rattle.chr_base.specs.declared.derivation.Derivation.{Derivation}
 use Rattle.chr_base.specs.declared.derivation.Step.{Step}
-use Rattle.chr_base.specs.Stores.{Store}
+use Rattle.chr_base.specs.Stores.{Store, size}
 use Rattle.chr_base.specs.Programs.{declarations, rules_of}
 use Rattle.chr_weights.specs.Weights.{ProgramLowers, IsFirstNotLowered}
 use Rattle.chr_weights.specs.WeighedPrograms.{program_of}
@@ -13,7 +13,7 @@ use Rattle.chr_weighing.specs.Weighings.{IsWeighing}
 use Rattle.chr_rewrite.specs.Derivations.{LeadsTo}
 use Rattle.chr_overlaps.specs.declared.cases.Case.{Case}
 use Rattle.chr_overlaps.specs.declared.overlap.Overlap.{Overlap}
-use Rattle.chr_overlaps.specs.OverlapLists.{AreOverlaps}
+use Rattle.chr_overlaps.specs.OverlapLists.{AreOverlaps, IsOverlapOf}
 use Rattle.chr_overlaps.specs.CaseLists.{AreCases, IsTooMany}
 use Rattle.chr_join.specs.declared.refused.Cause.TheVariants as cause
 use Rattle.chr_join.specs.declared.refused.Failure.{Failure}
@@ -68,15 +68,26 @@ IsFailureOf rules o f =
     (before : List Case) × (c : Case) × (after : List Case) × AreCases rules o (before ++ c ∷ after)
     × IsFailureAt rules o c f
 
--- both ways of a case of the overlap
-abbrev pub AreSmallerWays : List Rule → Overlap → Ways → Type 0
-AreSmallerWays rules o w = IsFailureOf rules o w.failure × AreWaysOf rules w
+-- and its store has n atoms at most
+abbrev pub IsSmallerFailureAt : List Rule → Overlap → Case → ℕ → Failure → Type 0
+IsSmallerFailureAt rules o c n f = IsFailureAt rules o c f × (size f.left.start ≤ n)
 
--- the first case that fails, of those that a coverage has, and another one of its overlap
+abbrev pub IsSmallerFailureOf : List Rule → Overlap → ℕ → Failure → Type 0
+IsSmallerFailureOf rules o n f = IsFailureOf rules o f × (size f.left.start ≤ n)
+
+-- the same of some overlap of the rules
+abbrev pub IsSmallerFailure : List Rule → ℕ → Failure → Type 0
+IsSmallerFailure rules n f = (o : Overlap) × IsOverlapOf rules o × IsSmallerFailureOf rules o n f
+
+-- both ways of a case of some overlap that fails, with no more atoms than another one
+abbrev pub AreSmallerWays : List Rule → Failure → Ways → Type 0
+AreSmallerWays rules f w = IsSmallerFailure rules (size f.left.start) w.failure × AreWaysOf rules w
+
+-- the first case that fails, of those that a coverage has, and another one with no more atoms
 pub record IsPeakBy (coverage : Coverage) (rules : List Rule) (p : Peak) : Type 0 where
   pub first : IsRefusalBy coverage rules (cause.Fails p.first.failure)
   pub ways : AreWaysOf rules p.first
-  pub smaller : IfSome p.smaller (AreSmallerWays rules p.first.failure.overlap)
+  pub smaller : IfSome p.smaller (AreSmallerWays rules p.first.failure)
 
 -- The number of the overlap's joint cases, or 0 where it has too many order types. Sorted cases are not counted by
 -- overlaps.

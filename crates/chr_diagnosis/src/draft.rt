@@ -19,6 +19,8 @@ pub(crate) struct Draft {
     pub guard: Vec<Comparison>,
     /// Variables that are made one.
     pub equal: Vec<Pair>,
+    /// Whether it fires only where two columns are equal, of which the rule compared none.
+    pub is_narrow: bool,
 }
 
 /// The sign that holds where this one does, but not of equal values.
@@ -57,17 +59,20 @@ fn rival_of<'a>(pattern: &Pattern, among: &'a [Pattern]) -> Option<&'a Pattern> 
     None
 }
 
-/// A kept head of the rule and a removed one of the same symbol.
+/// A kept head of the rule and a removed one of the same symbol, or else two removed ones.
 fn rivals(rule: &Rule) -> Option<(&Pattern, &Pattern)> {
     for kept in rule.kept.as_slice() {
         if let Some(removed) = rival_of(kept, rule.removed.as_slice()) {
             return Some((kept, removed));
         }
     }
-    None
+    match rule.removed.as_slice() {
+        [first, rest @ ..] => Some((first, rival_of(first, rest)?)),
+        [] => None,
+    }
 }
 
-/// The variables in the columns in which a kept head and a removed one differ, but those that the guard compares.
+/// The variables in the columns in which two heads of one symbol differ, but those that the guard compares.
 fn columns(alloc: Global, rule: &Rule) -> Result<Vec<Pair>, AllocError> {
     let mut pairs = Vec::new(alloc);
     let Some((kept, removed)) = rivals(rule) else {
@@ -106,6 +111,7 @@ fn guarded(alloc: Global, guard: Vec<Comparison>) -> Draft {
         kept: None,
         guard,
         equal: Vec::new(alloc),
+        is_narrow: false,
     }
 }
 
@@ -146,6 +152,7 @@ fn comparing(
         kept: None,
         guard,
         equal: Vec::from_slice(alloc, equal)?,
+        is_narrow: cmp == Cmp::Equal,
     })
 }
 
@@ -224,14 +231,15 @@ fn push_stricter(
     Ok(())
 }
 
-/// Adds the rule that only fires where a column is equal, for each column that it does not compare.
-fn push_equal(
+/// Adds the rule that compares a column too, for each column that it does not compare.
+fn push_comparing(
     alloc: Global,
     candidates: &mut Vec<Vec<Draft>>,
     rule: &Rule,
+    cmp: Cmp,
 ) -> Result<(), AllocError> {
     for pair in &columns(alloc, rule)? {
-        let draft = comparing(alloc, rule.guard.as_slice(), &[], *pair, Cmp::Equal)?;
+        let draft = comparing(alloc, rule.guard.as_slice(), &[], *pair, cmp)?;
         candidates.push(alone(alloc, draft)?)?;
     }
     Ok(())
@@ -259,7 +267,9 @@ pub(crate) fn candidates(alloc: Global, rule: &Rule) -> Result<Vec<Vec<Draft>>, 
     let mut candidates = Vec::new(alloc);
     push_stricter(alloc, &mut candidates, rule)?;
     candidates.push(by_columns(alloc, rule)?)?;
-    push_equal(alloc, &mut candidates, rule)?;
+    push_comparing(alloc, &mut candidates, rule, Cmp::AtMost)?;
+    push_comparing(alloc, &mut candidates, rule, Cmp::AtLeast)?;
     push_keeping(alloc, &mut candidates, rule)?;
+    push_comparing(alloc, &mut candidates, rule, Cmp::Equal)?;
     Ok(candidates)
 }

@@ -132,6 +132,99 @@ fn made_one(alloc: Global, equal: &[Pair], text: &str) -> Result<String, AllocEr
     Ok(out)
 }
 
+/// Names for variables without one that a changed rule compares, or has twice.
+const LETTERS: [&str; 12] = ["X", "Y", "Z", "A", "B", "C", "D", "E", "F", "G", "H", "K"];
+
+/// Whether the changed rule has the variable in a guard, or has others made one with it.
+fn uses(draft: &Draft, variable: u8) -> bool {
+    let term = Term::Variable(variable);
+    for comparison in &draft.guard {
+        if comparison.left == term || comparison.right == term {
+            return true;
+        }
+    }
+    for pair in &draft.equal {
+        if pair.first == variable {
+            return true;
+        }
+    }
+    false
+}
+
+/// Whether the changed rule needs a name for the variable, which has none.
+fn wants_name(told: ToldRule<'_>, draft: &Draft, variable: usize) -> bool {
+    match u8::try_from(variable) {
+        Ok(number) => told.is_anonymous(variable) && uses(draft, number),
+        Err(_) => false,
+    }
+}
+
+/// How many variables before this one need a name.
+fn named_before(told: ToldRule<'_>, draft: &Draft, variable: usize) -> usize {
+    let mut count: usize = 0;
+    for other in 1..variable {
+        if wants_name(told, draft, other) {
+            count = count.saturating_add(1);
+        }
+    }
+    count
+}
+
+/// A new name for a variable without one: the first letters that are no names go to the first such variables.
+fn new_name(told: ToldRule<'_>, draft: &Draft, variable: usize) -> Option<&'static str> {
+    let mut left = named_before(told, draft, variable);
+    for letter in LETTERS {
+        if !told.has_name(letter) {
+            if left == 0 {
+                return Some(letter);
+            }
+            left = left.saturating_sub(1);
+        }
+    }
+    None
+}
+
+/// Adds a word of a canonical text, where variables without a name get one where they need it.
+fn push_called(
+    out: &mut String,
+    told: ToldRule<'_>,
+    draft: &Draft,
+    word: &str,
+) -> Result<(), AllocError> {
+    let Some(variable) = variable_in(word) else {
+        return out.push_str(word);
+    };
+    if !wants_name(told, draft, variable) {
+        return out.push_str(word);
+    }
+    match new_name(told, draft, variable) {
+        Some(name) => out.push_str(name),
+        None => out.push_str(word),
+    }
+}
+
+/// A canonical text in which variables without a name have one where they need it.
+fn called(
+    alloc: Global,
+    told: ToldRule<'_>,
+    draft: &Draft,
+    text: &str,
+) -> Result<String, AllocError> {
+    let mut out = String::new(alloc);
+    let mut word = String::new(alloc);
+    for c in text.chars() {
+        if c == '_' || c.is_ascii_alphanumeric() {
+            word.push(c)?;
+        } else {
+            push_called(&mut out, told, draft, word.as_str())?;
+            out.push(c)?;
+            word = String::new(alloc);
+        }
+    }
+    push_called(&mut out, told, draft, word.as_str())?;
+    Ok(out)
+}
+
 /// Adds a changed rule as a clause.
 fn push_draft(
     alloc: Global,
@@ -147,6 +240,7 @@ fn push_draft(
     push_body(&mut text, told.program, told.rule)?;
     text.push_str(".")?;
     let text = made_one(alloc, &draft.equal, text.as_str())?;
+    let text = called(alloc, told, draft, text.as_str())?;
     told.push_named(alloc, out, text.as_str())
 }
 

@@ -72,6 +72,19 @@ impl<'a> ToldRule<'a> {
         self.names?.name_of(variable)
     }
 
+    /// Whether the variable of this number has no name.
+    pub(crate) fn is_anonymous(&self, variable: usize) -> bool {
+        self.name_of(variable) == Some(ANONYMOUS)
+    }
+
+    /// Whether a variable of the rule has this name.
+    pub(crate) fn has_name(&self, name: &str) -> bool {
+        match self.names {
+            Some(names) => names.has(name),
+            None => false,
+        }
+    }
+
     /// What stands behind this name of a variable.
     fn prime_of(&self, name: &str) -> &'static str {
         match self.primed {

@@ -1,18 +1,18 @@
 //! The case of an overlap with the smallest store that comes to two ends.
-ghost use Rattle.std.specs.Prelude.{IfOk, IfSome};
+ghost use Rattle.std.specs.Prelude.{◌≤◌, ℕ, IfOk, IfSome};
+ghost use Rattle.std.specs.Bool.{OnTrue};
+ghost use Rattle.chr_base.specs.Stores.{size};
 ghost use Rattle.chr_weights.specs.WeighedPrograms.{rules_in};
-ghost use Rattle.chr_overlaps.specs.OverlapLists.{IsOverlapOf};
 ghost use Rattle.chr_overlaps.specs.CaseLists.{AreCases};
 ghost use Rattle.chr_join.specs.Explanations.{ReplaysToRest};
-ghost use Rattle.chr_diagnosis.specs.Diagnoses.{AreSmallerWays, IsFailureAt, IsFailureOf};
+ghost use Rattle.chr_diagnosis.specs.Diagnoses.{IsFailureAt, IsSmallerFailureAt, IsSmallerFailureOf};
 ghost use Rattle.chr_diagnosis.specs.working.Sides.{IsSideFrom};
 
-use crate::ways::{Ways, ways_of};
 use chr_base::bag::Bag;
 use chr_base::derivation::{Derivation, Step};
 use chr_join::Failure;
-use chr_overlaps::cases::{Case, cases};
-use chr_overlaps::{CaseFault, Overlap};
+use chr_overlaps::Overlap;
+use chr_overlaps::cases::Case;
 use chr_rewrite::list::ListPool;
 use chr_rewrite::plain::plain_rest;
 use chr_rewrite::pool::Pool;
@@ -53,10 +53,22 @@ fn comes_before(store: &Bag, other: &Bag) -> bool {
 }
 
 /// Whether a store has fewer different values than another one, or as many and comes before it.
-fn is_smaller(alloc: Global, store: &Bag, other: &Bag) -> Result<bool, AllocError> {
+fn has_less(alloc: Global, store: &Bag, other: &Bag) -> Result<bool, AllocError> {
     let values = values_in(alloc, store)?;
     let others = values_in(alloc, other)?;
     Ok(values < others || (values == others && comes_before(store, other)))
+}
+
+/// Whether a store has fewer atoms than another one; or as many, and fewer different values; or as many of these too,
+/// and comes before it.
+fn is_smaller(alloc: Global, store: &Bag, other: &Bag) -> Result<bool, AllocError>
+    ensures { IfOk result (λ smaller. OnTrue smaller (size store.now ≤ size other.now)) }
+{
+    if store.len() == other.len() {
+        has_less(alloc, store, other)
+    } else {
+        Ok(store.len() < other.len())
+    }
 }
 
 /// The end of a derivation, where it can be replayed and ends at rest.
@@ -151,7 +163,8 @@ fn smaller_at(
     case: &Case,
     least: &Bag,
 ) -> Result<Option<Failure>, AllocError>
-    ensures { IfOk result (λ found. IfSome found (IsFailureAt (rules_in weighed.now) overlap.now case.now)) }
+    ensures { IfOk result (λ found. IfSome found
+        (IsSmallerFailureAt (rules_in weighed.now) overlap.now case.now (size least.now))) }
 {
     if is_smaller(alloc, &case.store, least)? {
         failing(alloc, weighed, overlap, case)
@@ -160,8 +173,18 @@ fn smaller_at(
     }
 }
 
+/// The store of the case that was found, or else this one.
+pub(crate) fn least_of<'a>(found: &'a Option<Failure>, store: &'a Bag) -> &'a Bag
+    ensures { (n : ℕ) → size store.now ≤ n → IfSome found.now (λ f. size f.left.start ≤ n) → size result.now ≤ n }
+{
+    match found {
+        Some(failure) => &failure.left.start,
+        None => store,
+    }
+}
+
 /// Of the cases that fail the one with the smallest store, where that is smaller than this.
-fn smallest_among(
+pub(crate) fn smallest_among(
     alloc: Global,
     weighed: &Weighed,
     overlap: &Overlap,
@@ -169,61 +192,14 @@ fn smallest_among(
     store: &Bag,
 ) -> Result<Option<Failure>, AllocError>
     requires { AreCases (rules_in weighed.now) overlap.now cases.now }
-    ensures { IfOk result (λ found. IfSome found (IsFailureOf (rules_in weighed.now) overlap.now)) }
+    ensures { IfOk result (λ found. IfSome found (IsSmallerFailureOf (rules_in weighed.now) overlap.now (size store.now))) }
 {
     let mut smallest: Option<Failure> = None;
     for case in cases {
-        let least = match &smallest {
-            Some(failure) => &failure.left.start,
-            None => store,
-        };
+        let least = least_of(&smallest, store);
         if let Some(failure) = smaller_at(alloc, weighed, overlap, case, least)? {
             smallest = Some(failure);
         }
     }
     Ok(smallest)
-}
-
-/// Of the overlap's cases that fail the one with the smallest store, where that is smaller than this one's. None where
-/// the overlap has too many order types for a list of its cases.
-fn smallest(
-    alloc: Global,
-    weighed: &Weighed,
-    first: &Failure,
-) -> Result<Option<Failure>, AllocError>
-    requires { IsOverlapOf (rules_in weighed.now) first.now.overlap }
-    ensures { IfOk result (λ found. IfSome found (IsFailureOf (rules_in weighed.now) first.now.overlap)) }
-{
-    let overlap = &first.overlap;
-    match cases(alloc, weighed, overlap) {
-        Ok(cases) => smallest_among(alloc, weighed, overlap, &cases, &first.left.start),
-        Err(CaseFault::TooManyTypes { .. }) => Ok(None),
-        Err(CaseFault::Memory) => Err(AllocError),
-    }
-}
-
-/// Both ways of the case of an overlap that fails with the smallest store, where that is smaller than this one's.
-fn smaller_ways(
-    alloc: Global,
-    weighed: &Weighed,
-    first: &Failure,
-) -> Result<Option<Ways>, AllocError>
-    requires { IsOverlapOf (rules_in weighed.now) first.now.overlap }
-    ensures { IfOk result (λ found. IfSome found (AreSmallerWays (rules_in weighed.now) first.now.overlap)) }
-{
-    match smallest(alloc, weighed, first)? {
-        Some(failure) => Ok(Some(ways_of(alloc, weighed, failure)?)),
-        None => Ok(None),
-    }
-}
-
-/// The same; none where memory is refused.
-pub(crate) fn smaller_where_told(alloc: Global, weighed: &Weighed, first: &Failure) -> Option<Ways>
-    requires { IsOverlapOf (rules_in weighed.now) first.now.overlap }
-    ensures { IfSome result (AreSmallerWays (rules_in weighed.now) first.now.overlap) }
-{
-    match smaller_ways(alloc, weighed, first) {
-        Ok(found) => found,
-        Err(_) => None,
-    }
 }

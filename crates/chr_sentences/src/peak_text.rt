@@ -3,15 +3,13 @@
 use crate::overlap_text::{ToldOverlap, told_overlap};
 use chr_base::bag::Bag;
 use chr_base::derivation::Derivation;
+use chr_base::program::Program;
 use chr_base::text::push_store;
 use chr_diagnosis::{NamedProgram, Peak, Ways, told_rule};
 use chr_faults::Names;
 use chr_join::Failure;
 use std::alloc::{AllocError, Global};
 use std::fmt::Write;
-
-/// What stands before the smallest store.
-const SMALLER: &str = "The smallest store with which these heads come to two ends";
 
 /// What stands behind a case in which two facts compete for a third one.
 const COMPETITION: &str =
@@ -64,16 +62,15 @@ fn push_values(
     Ok(())
 }
 
-/// Adds the store of a case that fails, which these words come before, and both ways from it.
+/// Adds the store of a case that fails, and both ways from it.
 fn push_ways(
     alloc: Global,
     out: &mut String,
     source: NamedProgram<'_>,
-    before: &str,
     ways: &Ways,
 ) -> Result<(), AllocError> {
     let failure = &ways.failure;
-    write!(out, "{before}: ")?;
+    out.push_str("The store: ")?;
     push_store(alloc, out, source.program, &failure.left.start)?;
     out.push_str("\nOne way:\n")?;
     push_side(
@@ -95,39 +92,61 @@ fn push_ways(
     )
 }
 
-/// Adds the rules of a case that fails, and both ways of it and of a smaller one.
+/// Adds the rules of a case that fails, and both ways of it.
 fn push_case(
     alloc: Global,
     out: &mut String,
     told: ToldOverlap<'_>,
     source: NamedProgram<'_>,
-    peak: &Peak,
+    ways: &Ways,
 ) -> Result<(), AllocError> {
     told.push_rules(alloc, out)?;
     told.push_matched(alloc, out)?;
-    push_values(alloc, out, told, &peak.first.failure)?;
-    push_ways(alloc, out, source, "The store", &peak.first)?;
-    match &peak.smaller {
-        Some(smaller) => push_ways(alloc, out, source, SMALLER, smaller),
-        None => Ok(()),
-    }
+    push_values(alloc, out, told, &ways.failure)?;
+    push_ways(alloc, out, source, ways)
 }
 
-/// Tells of a case whose sides end in different stores.
+/// Adds what a check writes of the first case that fails.
+fn push_first(
+    alloc: Global,
+    out: &mut String,
+    program: &Program,
+    failure: &Failure,
+) -> Result<(), AllocError> {
+    let overlap = &failure.overlap;
+    write!(
+        out,
+        "A check tells of the first case:\n  rules {} {}; matching (",
+        overlap.first, overlap.second
+    )?;
+    for (place, entry) in overlap.matching.iter().enumerate() {
+        write!(out, "{}{entry}", if place == 0 { "" } else { "," })?;
+    }
+    out.push_str("); store ")?;
+    push_store(alloc, out, program, &failure.left.start)?;
+    out.push_str("; left ")?;
+    push_store(alloc, out, program, &failure.left_end)?;
+    out.push_str("; right ")?;
+    push_store(alloc, out, program, &failure.right_end)?;
+    out.push_str("\n")
+}
+
+/// Tells of a case whose sides end in different stores: of the smallest one that was found.
 pub(crate) fn push_peak(
     alloc: Global,
     out: &mut String,
     names: &Names,
     peak: &Peak,
 ) -> Result<(), AllocError> {
-    let source = NamedProgram {
-        program: peak.weighed.program(),
-        names,
-    };
-    let Some(told) = told_overlap(source, &peak.first.failure.overlap) else {
+    let program = peak.weighed.program();
+    let source = NamedProgram { program, names };
+    let Some(told) = told_overlap(source, &peak.shown().failure.overlap) else {
         return Ok(());
     };
-    push_case(alloc, out, told, source, peak)?;
+    push_case(alloc, out, told, source, peak.shown())?;
+    if peak.smaller.is_some() {
+        push_first(alloc, out, program, &peak.first.failure)?;
+    }
     out.push_str("Two replicas that took these rules in another order would disagree for ever.\n")?;
     out.push_str(
         "Add a rule that takes one end to the other, or write a guard under which only one of the two steps is possible.\n",

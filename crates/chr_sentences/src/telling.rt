@@ -146,7 +146,7 @@ fn push_program(
             write!(out, "refused 21{by}: one store comes to two ends\n")?;
             push_judged(out, judged)?;
             push_peak(alloc, out, names, peak)?;
-            push_proposals(out, judged.coverage, proposals)
+            push_proposals(alloc, out, judged.coverage, peak, proposals)
         }
         Diagnosis::TooManyCombinations(throng) => {
             let by = by_option(judged.coverage);

@@ -1,10 +1,6 @@
 use Rattle.std.proofs.Common.{ap}
 use Rattle.chr_weights.specs.WeighedPrograms.{program_of}
-use Rattle.chr_diagnosis.proofs.FirstOverlaps.{overlap_of}
 use Rattle.chr_diagnosis.proofs.diagnosis.failing_diagnosis.Goals as goal
-
-pub peak_of-requires-clause-overlap : goal.peak_of-requires-clause-overlap
-peak_of-requires-clause-overlap c = overlap_of _ _ _ c.requires.first.0
 
 pub returns-in-Ok : goal.returns-in-Ok
 returns-in-Ok c = (

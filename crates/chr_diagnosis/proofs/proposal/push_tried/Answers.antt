@@ -3,5 +3,5 @@ use Rattle.chr_diagnosis.proofs.proposal.push_tried.Goals as goal
 
 pub returns-in_ok-push : goal.returns-in_ok-push
 returns-in_ok-push g c =
-    one_more c.args.coverage c.args.text.now c.args.proposals.now.items c.push.new.self.items c.in-Some.accepted
-    c.in_ok-accepted.field-0 c.requires c.in_ok-accepted.ensures c.in-Some.is c.in_ok-push.ensures.items
+    one_more c.args.coverage c.args.text.now c.args.proposals.now.items c.push.new.self.items c.in-Some.proposal
+    c.in_ok-proposal.field-0 c.requires c.in_ok-proposal.ensures c.in-Some.is c.in_ok-push.ensures.items
