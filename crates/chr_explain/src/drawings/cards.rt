@@ -3,7 +3,7 @@
 use chr_base::bag::Bag;
 use chr_base::derivation::{Derivation, Step};
 use chr_base::text::store_text;
-use chr_diagnosis::{NamedProgram, Peak, Ways, told_rule};
+use chr_diagnosis::{NamedProgram, Peak, told_rule};
 use chr_faults::Names;
 use std::alloc::{AllocError, Global};
 
@@ -65,19 +65,11 @@ fn way_cards(
     Ok(cards)
 }
 
-/// The case that is shown: the one with the smallest store that is known.
-pub(crate) fn shown_case(peak: &Peak) -> &Ways {
-    match &peak.smaller {
-        Some(smaller) => smaller,
-        None => &peak.first,
-    }
-}
-
 /// Both ways of the case that is shown.
 pub(crate) fn cards_of(alloc: Global, names: &Names, peak: &Peak) -> Result<Cards, AllocError> {
     let program = peak.weighed.program();
     let source = NamedProgram { program, names };
-    let ways = shown_case(peak);
+    let ways = peak.shown();
     let failure = &ways.failure;
     let start = store_text(alloc, program, &failure.left.start)?;
     let left = way_cards(alloc, source, &failure.left, &ways.left, &failure.left_end)?;

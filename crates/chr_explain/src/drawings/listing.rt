@@ -1,6 +1,5 @@
 //! The text of a program on a page, with marks at its faulty places.
 
-use crate::drawings::cards::shown_case;
 use crate::drawings::html::{push_html, push_html_char};
 use crate::drawings::told_parts::{Note, notes_in};
 use chr_diagnosis::Diagnosis;
@@ -43,7 +42,7 @@ fn spans_of(alloc: Global, text: &[u8], diagnosis: &Diagnosis) -> Result<Vec<Spa
     match diagnosis {
         Diagnosis::Text(faults) => fault_spans(alloc, text, faults),
         Diagnosis::NotLowered(told) => rule_spans(alloc, text, told.fault.rule, told.fault.rule),
-        Diagnosis::Fails(peak) => overlap_spans(alloc, text, &shown_case(peak).failure.overlap),
+        Diagnosis::Fails(peak) => overlap_spans(alloc, text, &peak.shown().failure.overlap),
         Diagnosis::TooManyCombinations(throng) => {
             overlap_spans(alloc, text, &throng.too_many.overlap)
         }
