@@ -73,6 +73,7 @@ The other way:
   end: a(0), b(1)
 Two replicas that took these rules in another order would disagree for ever.
 Add a rule that takes one end to the other, or write a guard under which only one of the two steps is possible.
+No change of one rule was found with which the program is accepted.
 """,
     ),
 )

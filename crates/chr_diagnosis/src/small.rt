@@ -139,7 +139,7 @@ fn push_stores(
     Ok(())
 }
 
-/// The stores of one to `MAX_STORE_ATOMS` of these atoms, by their numbers of atoms, `MAX_SMALL_STORES` of them at most.
+/// The stores of one to `MAX_STORE_ATOMS` of these atoms, by their numbers of atoms, `MAX_SMALL_STORES` at most.
 fn stores_of(alloc: Global, atoms: &[Atom]) -> Result<Vec<Bag>, AllocError> {
     let mut stores = Vec::new(alloc);
     let mut picked = Vec::new(alloc);
