@@ -3,5 +3,4 @@ mod asking;
 mod calls;
 mod events;
 mod random_worlds;
-mod rested;
 mod worlds;
