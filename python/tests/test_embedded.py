@@ -140,7 +140,7 @@ class Files(unittest.TestCase):
 
     def test_a_string_that_is_the_name_of_a_file(self) -> None:
         said = r"this text looks like the name of a file, which is given as Path\('{}'\)$"
-        names = ["cart.chr", "./my cart.chr", "/home/a/cart.txt", "cart.v2.chr", "caf\u00e9.chr"]
+        names = ["cart.chr", "./my cart.chr", "/srv/a/cart.txt", "cart.v2.chr", "caf\u00e9.chr"]
         for name in names:
             calls: list[Callable[[], object]] = [
                 lambda: chrrep.check(name), lambda: chrrep.Node(name, 1), lambda: join(self.url, name),
