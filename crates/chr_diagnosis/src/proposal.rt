@@ -37,8 +37,8 @@ pub struct Proposal {
     pub to: usize,
     /// The rules, each in its line.
     pub rules: String,
-    /// The order in which proposals are told, the least first: by how few small stores stay, and behind all others those
-    /// that fire only where two columns are equal, of which the rule compared none.
+    /// The order in which proposals are told, the least first: by how few small stores stay, and behind all others
+    /// those that fire only where two columns are equal, of which the rule compared none.
     pub rank: usize,
     /// The program with them.
     pub accepted: Accepted,

@@ -122,8 +122,8 @@ fn peak_proposals(
     Ok(proposals)
 }
 
-/// Rules with which a text is accepted of which a case fails, `MAX_PROPOSALS` at most, those first with which fewer small
-/// stores stay; none where memory is refused.
+/// Rules with which a text is accepted of which a case fails, `MAX_PROPOSALS` at most, those first with which fewer
+/// small stores stay; none where memory is refused.
 pub fn proposals(
     rt: &(impl Threads + Sync),
     alloc: Global,

@@ -192,7 +192,8 @@ pub(crate) fn smallest_among(
     store: &Bag,
 ) -> Result<Option<Failure>, AllocError>
     requires { AreCases (rules_in weighed.now) overlap.now cases.now }
-    ensures { IfOk result (λ found. IfSome found (IsSmallerFailureOf (rules_in weighed.now) overlap.now (size store.now))) }
+    ensures { IfOk result (λ found. IfSome found
+        (IsSmallerFailureOf (rules_in weighed.now) overlap.now (size store.now))) }
 {
     let mut smallest: Option<Failure> = None;
     for case in cases {

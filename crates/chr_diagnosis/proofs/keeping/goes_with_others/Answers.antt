@@ -28,5 +28,6 @@ loop-other-preserved c =
 pub returns : goal.returns
 returns c =
     let all : length c.args.proposals.now ≤ c.loop-other.other-index = search rules in
-    subst (All (GoesOrIsOf c.args.proposal.now c.args.store.now)) (take_all c.loop-other.other-index c.args.proposals.now all)
+    subst (All (GoesOrIsOf c.args.proposal.now c.args.store.now)) (take_all c.loop-other.other-index
+    c.args.proposals.now all)
     c.loop-other.invariant
