@@ -4,7 +4,8 @@ use Rattle.std.proofs.lemmas.List.{take_all}
 use Rattle.chr_diagnosis.specs.Proposals.{GoesOrIsOf, IsSamePlace}
 use Rattle.chr_diagnosis.proofs.FirstElements.{one_further}
 use Rattle.chr_diagnosis.proofs.KeptAlone.{goes_with}
-use Rattle.chr_diagnosis.proofs.keeping.goes_with_others.Goals.{else-not-are_same-via-then-not-are_same+in_ok-stays+else-branch, else-not-are_same-via-else-not-are_same}
+use Rattle.chr_diagnosis.proofs.keeping.goes_with_others.Goals.{else-not-are_same-via-then-not-are_same+in_ok-stays+else-branch}
+use Rattle.chr_diagnosis.proofs.keeping.goes_with_others.Goals.{else-not-are_same-via-else-not-are_same}
 use Rattle.chr_diagnosis.proofs.keeping.goes_with_others.Goals as goal
 
 pub loop-other-preserved : goal.loop-other-preserved
