@@ -92,6 +92,6 @@ module _ {K : Type 0} {R : K → K → Ordering} where
   abbrev pub IsWithin : FinBag R → FinBag R → Type 0
   IsWithin s t = (q : K) → count s q ≤ count t q
 
-  -- a number for each item, summed
+  -- what f gives for the items, summed
   unfoldable pub sum_over : (K → ℕ) → FinBag R → ℕ
   sum_over f s = total f (items s)

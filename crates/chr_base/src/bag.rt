@@ -35,7 +35,7 @@ impl Model for Bag {
 }
 
 impl Bag {
-    /// The empty one.
+    /// The empty bag.
     pub fn new(alloc: Global) -> Self
         ensures { result ≡ bag.empty }
     {
@@ -86,7 +86,7 @@ impl Bag {
         self.atoms().is_empty()
     }
 
-    /// Adds all atoms of another bag.
+    /// Adds all atoms of another bag: all of them, or none where memory is refused.
     pub fn union(&mut self, other: &Bag) -> Result<(), AllocError>
         ensures ok { OnOk result (self.new ≡ self.old ⊕ other.now) }
         ensures err { OnErr result (self.new ≡ self.old) }

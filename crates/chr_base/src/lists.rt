@@ -27,7 +27,7 @@ pub fn count_of(items: &[Atom], atom: &Atom) -> usize
     count
 }
 
-/// Where an atom goes in.
+/// The place where an atom goes into a list in order: before the first item that it isn't after.
 pub(crate) fn place_of(items: &[Atom], atom: &Atom) -> usize
     ensures within { result ≤ length items.now }
     ensures place { put atom_cmp atom.now items.now ≡ insert items.now result atom.now }
@@ -40,7 +40,7 @@ pub(crate) fn place_of(items: &[Atom], atom: &Atom) -> usize
     items.len()
 }
 
-/// Where an atom stands.
+/// The place of an atom in a list, where it stands there.
 fn index_of(items: &[Atom], atom: &Atom) -> Option<usize>
     ensures found { IfSome result (λ i.
         (i < length items.now) × (without atom_cmp atom.now items.now ≡ remove items.now i)) }
