@@ -52,8 +52,8 @@ fn is_met(prefix: &[i64], value: i64, holes: &[i64], number: i64) -> bool
     is_among(prefix, number) || value == number || is_among(holes, number)
 }
 
-/// Adds the numbers between the candidate and its base to the holes, up to the first that is there.
-/// Tells whether the holes are then no more than there is room for.
+/// Adds the numbers between the candidate and its base to the holes, up to the first that is met already. Tells whether
+/// the holes are then no more than `room`.
 fn add_way(
     holes: &mut Vec<i64>,
     prefix: &[i64],
@@ -107,7 +107,7 @@ pub(crate) fn holes_after(
     Ok(None)
 }
 
-/// Adds the lists that begin with the prefix and go on with so many more values, in lexicographic order.
+/// Adds the lists that begin with the prefix and go on with `left` more values, in lexicographic order.
 ///
 /// # Errors
 /// `TooManyTypes` where there would be more than the limit, and some may be added then.
