@@ -392,7 +392,7 @@ module _ (ds : List Declaration) (r : base_rule.Rule) (u : are_distinct ds ≡ t
           → list_all is_valued (terms_of ps) ≡ true → AllByRecursion (GoodAtom ds n) ps
       good_at n ps h e v = fewer n ps h (bounds 0 n (terms_of ps) e v).good
 
-  -- ---- and it is written
+  -- ---- what is written for a rule is a form
 
   rule_form : IsForm (rule w)
   rule_form = (
