@@ -43,7 +43,7 @@ declared_within ds i n h = by (slice_get ds i) refl h
     by None e h = absurd (true≢false (sym h))
     by (Some d) e h = slice_get_within ds i d e
 
--- its weight is the one that the table has
+-- the weight of a declared symbol is the one that the table has
 pub weight_found : (ds : List Declaration) (i n : ℕ) (w : Weight) → takes (slice_get ds i) n ≡ true → Some w
     ≡ option_map (λ d. d.weight) (slice_get ds i) → w ≡ declared_weight (slice_get ds i) n
 weight_found ds i n w h e = by (slice_get ds i) h e
@@ -163,7 +163,7 @@ refuted p n before after h all =
       | inr w ↦ (let l = w.0 in let f = h.first in let g = h.within in omega (arith, l, f, g))
     ]
 
--- so the answer is exact
+-- where some rule does not lower, the answer 'no' is exact
 pub not_lowered : (p : Program) (n : ℕ) (before after : Weight) → IsFirstNotLowered (declarations p)
     (rules_of p) n before after → IsTrue false ↔ ProgramLowers p
 not_lowered p n before after h = ((λ e. absurd (true≢false (sym e))), λ all. absurd (refuted p n before after h all))
