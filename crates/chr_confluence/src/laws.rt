@@ -11,7 +11,7 @@ ghost use Rattle.chr_confluence.specs.laws.Cases.{CasesMakeLocallyConfluent, Cas
 ghost use Rattle.chr_confluence.specs.laws.Cases.{FailingCaseRefutes};
 ghost use Rattle.chr_confluence.specs.laws.Parts.{PartsReach, PartsDetermine};
 
-/// Monotonicity: a step in a store is a step with the same effect in every larger store, and so goes on a run
+/// Monotonicity: a step in a store is a step with the same effect in every larger store, and a run goes on there, too
 /// (Frühwirth 2009).
 pub fn grow()
     ensures instances { InstancesGrow }

@@ -29,7 +29,7 @@ pub fn listed_cases()
     ensures values { ListedHaveValues }
 {}
 
-/// So for rules that lower a weight the listed cases decide confluence: the rules are confluent where each listed case
+/// The listed cases decide confluence of rules that lower a weight: the rules are confluent where each listed case
 /// joins, and are not where the sides of one have different normal forms.
 pub fn listed_confluence()
     ensures confluent { ListedMakeConfluent }
