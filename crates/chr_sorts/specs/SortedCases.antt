@@ -59,7 +59,7 @@ SortedOverlapIsJoinable o rules r1 r2 m =
     × Cover o (class_sorts o σ r1 r2) rs
     × ((zs : List ℤ) → In zs rs → guards_hold σ r1 r2 zs ≡ true → ListedCaseIsJoinable rules r1 r2 m σ zs))
 
--- so it is of each overlap of the rules; each rule is overlapped with those from itself on
+-- each overlap of the rules is joinable; each rule is overlapped with those from itself on
 abbrev pub SortedAreJoinable : Sorts → List Rule → Type 0
 SortedAreJoinable o rules =
     (i j : ℕ) (r1 r2 : Rule) → slice_get rules i ≡ Some r1 → slice_get rules j ≡ Some r2 → i ≤ j

@@ -7,9 +7,9 @@ ghost use Rattle.chr_sorts.specs.laws.SortedLists.{NewValuesCover, BlocksCover, 
 ghost use Rattle.chr_sorts.specs.laws.SortedCases.{EveryCaseIsSorted, SortedAreCases, SortedHaveValues, SortedSuffice};
 ghost use Rattle.chr_sorts.specs.laws.SortedCases.{SortedMakeConfluent, FailingSortedRefutes};
 
-/// Images. A map of atoms gives each store an image, atom by atom, with equal ones added up. It carries a step to a
-/// step where it takes each head and body atom of the instance to that of another one whose guard holds; so a map of
-/// values does, by position and value, which changes atoms argument by argument. It need not be injective.
+/// Images. A map of atoms gives each store an image, atom by atom, in which atoms that become equal are added up. It
+/// carries a step to a step where it takes each head and body atom of the instance to that of another instance whose
+/// guard holds. Maps that change each argument by its position and value can do this. They need not be injective.
 pub fn carry()
     ensures lists { ListsHaveImages }
     ensures sums { ImagesAdd }
@@ -31,9 +31,9 @@ pub fn sorted_maps()
     ensures joins { SortedJoinsAreCarried }
 {}
 
-/// Lists of values that cover. At a free sort one list does, of different values that are no constants; at an equal
-/// sort one for each way to put the values into blocks, each block at a constant or at none; at an ordered sort the
-/// representatives of the order types. And all combinations of one list for each sort cover all sorts.
+/// Lists of values that cover. At a free sort one list covers, of different values that are no constants; at an equal
+/// sort one list for each way to put the values into blocks, each block at a constant or at none; at an ordered sort
+/// the representatives of the order types. All combinations of one list for each sort cover all sorts.
 pub fn sorted_lists()
     ensures free { NewValuesCover }
     ensures equal { BlocksCover }
@@ -52,7 +52,7 @@ pub fn sorted_cases()
     ensures suffice { SortedSuffice }
 {}
 
-/// So for rules that lower a weight the sorted cases decide confluence: the rules are confluent where each sorted case
+/// The sorted cases decide confluence of rules that lower a weight: the rules are confluent where each sorted case
 /// joins, and are not where the sides of one have different normal forms.
 pub fn sorted_confluence()
     ensures confluent { SortedMakeConfluent }
