@@ -62,7 +62,7 @@ fn has_from(items: &[Atom], start: usize, atoms: &[Atom]) -> bool
     true
 }
 
-/// Takes these atoms off the end of a list, where just they stand there: as after they were put there.
+/// Takes these atoms off the end of a list, if the list ends with just them, as after they were put there.
 fn take_off_end(fresh: &mut Vec<Atom>, atoms: &[Atom]) -> bool
     ensures taken { OnTrue result (fresh.old.items ≡ fresh.new.items ++ atoms.now) }
     ensures same { OnFalse result (fresh.new ≡ fresh.old) }
@@ -124,7 +124,7 @@ impl Rested {
         true
     }
 
-    /// Whether so many such atoms are there, at rest or fresh. It takes no memory.
+    /// Whether at least `wanted` such atoms are there, at rest or fresh. It takes no memory.
     pub(crate) fn has_as_often(&self, fresh: &[Atom], atom: &Atom, wanted: usize) -> bool
         requires { IsRested self.now }
         ensures { IsTrue result ↔ wanted ≤ count (stored self.now ⊕ store_of fresh.now) atom.now }
