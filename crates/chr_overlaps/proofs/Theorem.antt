@@ -182,7 +182,7 @@ module _ (rules : List Rule) where
       let m = in_flat_map x (overlaps_of_pair rules i) (range_with_len i (length rules - i)) h in
       record { place = m.0; after = (range_in i (length rules - i) m.0 m.1).0; pair = in_pair i m.0 x m.2 }
 
-  -- those of k rules from the place a on
+  -- the overlaps whose first rule is one of k rules, from the place a on
   abbrev some : ℕ → ℕ → List Overlap
   some a k = flat_map (overlaps_of_rule rules) (range_with_len a k)
 
