@@ -34,7 +34,7 @@ use Rattle.chr_sorting.specs.SortedCaseLists.{AreListsAt, AreCombinations, AreSo
 use Rattle.chr_sorting.specs.SortedCaseLists.{HasTooManyCombinations}
 use Rattle.chr_sorting.specs.laws.FinestSorts.{AreSameAt, FinestAreOne, FinestHaveOneCases, FinestHaveAsMany}
 
--- kinds that tell the same signs are one
+-- kinds that tell the same signs are equal
 one_kind : (k l : Kind) → ((c : Cmp) → tells k c ≡ true → tells l c ≡ true)
     → ((c : Cmp) → tells l c ≡ true → tells k c ≡ true) → k ≡ l
 one_kind ordered ordered f g = refl

@@ -36,7 +36,7 @@ AreListsAt equal cs n ls =
     × RisesBy (λ r t. slice_cmp int_cmp r t ≡ Less) ls
 AreListsAt ordered cs n ls = AreTypes n cs ls
 
--- the lists there are more than the limit
+-- there are more lists of n values at the sort than the limit
 abbrev pub MoreListsThan : ℕ → Kind → List ℤ → ℕ → Type 0
 MoreListsThan limit kind cs n = (ls : List (List ℤ)) × AreListsAt kind cs n ls × (limit < length ls)
 
@@ -71,8 +71,8 @@ pub record AreSortedCases (s : Sorts) (rules : List Rule) (o : Overlap) (cs : Li
   pub listed : (HasNoUnifier (all_equations rule1 rule2 o.matching.items) × (cs ≡ []))
       ⊎ AreSortedListed s o rule1 rule2 cs
 
--- under a most general unifier of these equations: n classes are bound to no constant, and there are too many
--- combinations
+-- under a most general unifier of the matched heads and of both guards' equations: n classes are bound to no constant,
+-- and there are too many combinations
 pub record HasTooManyCombinations (s : Sorts) (rules : List Rule) (o : Overlap) (n : ℕ) : Type 0 where
   pub rule1 : Rule
   pub rule2 : Rule
