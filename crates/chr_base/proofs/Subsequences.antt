@@ -174,7 +174,7 @@ passed xs ys ws whole kept i x w l is same h = record {
       ap (λ zs. take kept xs ++ zs) (sym e) ∙ h.done);
 }
 
--- another is moved down
+-- an item that is not wanted is moved down
 moved : (xs ys ws whole : List Atom) (kept i : ℕ) (x : Atom) → i < length xs → x ≡ get_or xs i x
     → without_subsequence atom_cmp (x ∷ drop (i + 1) ys) ws ≡ x ∷ without_subsequence atom_cmp (drop (i + 1) ys) ws
     → IsAt xs ys ws whole kept i → IsAt (swap xs kept i) ys ws whole (kept + 1) (i + 1)

@@ -119,8 +119,8 @@ impl Bag {
         lists::same_atoms(&self.items, &other.items)
     }
 
-    /// Takes all of these atoms out, or none where they are not there. It takes no memory. Where the atoms are in
-    /// order, as those of a bag are, it walks the bag twice; else once and more for each atom.
+    /// Takes all of these atoms out, or none where they are not all there. It takes no memory. It walks the bag twice
+    /// where the atoms are in order, as those of a bag are, and else at least once for each of them.
     pub fn remove_all(&mut self, atoms: &[Atom]) -> bool
         ensures there { IsTrue result ↔ bag.IsWithin (bag.of_list atoms.now) self.old }
         ensures taken { OnTrue result (self.new ≡ self.old ⊖ bag.of_list atoms.now) }

@@ -85,7 +85,7 @@ fn take_all_out(items: &mut Vec<Atom>, atoms: &[Atom])
     }
 }
 
-/// Takes all of these atoms out, or none where they are not there. They may stand in any order: each costs a walk.
+/// Takes all of these atoms out, or none where they are not all there. They may stand in any order: each costs a walk.
 pub(crate) fn remove_one_by_one(items: &mut Vec<Atom>, atoms: &[Atom]) -> bool
     ensures there { IsTrue result ↔ AreWithin atoms.now items.old.items }
     ensures taken { OnTrue result (AreLeft items.old.items atoms.now items.new.items) }
@@ -143,7 +143,7 @@ fn take_subsequence_out(items: &mut Vec<Atom>, atoms: &[Atom])
     items.truncate(kept);
 }
 
-/// Takes all of these atoms out, or none where they are not there. Both lists are in order, so two walks serve.
+/// Takes all of these atoms out, or none where they are not all there. Both lists are in order, so two walks serve.
 pub(crate) fn remove_in_order(items: &mut Vec<Atom>, atoms: &[Atom]) -> bool
     requires items { IsTrue (is_rising atom_cmp items.old.items) }
     requires atoms { IsTrue (is_rising atom_cmp atoms.now) }
