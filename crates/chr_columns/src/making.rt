@@ -304,8 +304,9 @@ fn copies_of(alloc: Global, rules: &[Rule]) -> Result<Vec<Rule>, AllocError>
     Ok(copies)
 }
 
-/// No atoms, under copies of these rules, with the plans of their head places and the indexes that these want, whose
-/// keys are hashed under the seed. It is refused where memory is, or where there would be `MAX_TABLES` tables.
+/// What is at rest where there is no atom: copies of these rules, the plans of their head places, and tables with the
+/// indexes that the plans want, whose keys are hashed under the seed. It is refused where memory is, or where there
+/// would be `MAX_TABLES` tables.
 pub(crate) fn rested_for(alloc: Global, seed: u64, rules: &[Rule]) -> Result<Rested, AllocError>
     ensures rested { IfOk result IsRested }
     ensures rules { IfOk result (λ r. r.rules.items ≡ rules.now) }

@@ -22,7 +22,8 @@ fn first_argument(atom: &Atom) -> i64
     }
 }
 
-/// The place of the portion of an atom: that of the first cut which is above its first argument, or their number.
+/// The place of the portion of an atom: that of the first cut above its first argument, or the number of cuts where
+/// none is.
 pub(crate) fn place_of(cuts: &[i64], atom: &Atom) -> usize
     ensures { result ≡ place_at cuts.now atom.now }
 {

@@ -159,8 +159,8 @@ impl Rested {
         }
     }
 
-    /// Takes all of these atoms out, at rest or fresh, or none where as a multiset they are not there. It searches what
-    /// is there for each.
+    /// Takes all of these atoms out, at rest or fresh, or none where as a multiset they are not all there. It searches
+    /// the pool for each of them.
     fn remove_each(&mut self, fresh: &mut Vec<Atom>, atoms: &[Atom]) -> bool
         requires { IsRested self.old }
         ensures rested { IsRested self.new }
@@ -181,8 +181,8 @@ impl Rested {
         true
     }
 
-    /// Takes all of these atoms out, at rest or fresh, or none where as a multiset they are not there. It takes no
-    /// memory. Those that were put in last cost a walk over them.
+    /// Takes all of these atoms out, at rest or fresh, or none where as a multiset they are not all there. It takes no
+    /// memory. Where they were put in last, they cost one walk over them.
     pub(crate) fn remove_all(&mut self, fresh: &mut Vec<Atom>, atoms: &[Atom]) -> bool
         requires { IsRested self.old }
         ensures rested { IsRested self.new }

@@ -19,9 +19,9 @@ use std::alloc::AllocError;
 /// What fresh atoms came to.
 #[derive(Clone, Copy, Debug, PartialEq, Eq)]
 pub(crate) enum Outcome {
-    /// One of them fired a rule.
+    /// A fresh atom fired a rule.
     Fired,
-    /// They joined those at rest.
+    /// All fresh atoms joined those at rest.
     AtRest,
 }
 

@@ -16,7 +16,7 @@ use Rattle.chr_columns.specs.working.Printing.{IsWrittenOut, flats_atoms}
 abbrev pub first_argument : Atom → ℤ
 first_argument a = get_or a.args.items 0 (pos 0)
 
--- the place of the first cut that is above the atom's first argument, and their number where none is
+-- the place of the first cut that is above the atom's first argument, or the number of cuts where none is
 abbrev pub place_at : List ℤ → Atom → ℕ
 place_at cuts a = position_or_len (λ c. int_lt (first_argument a) c) cuts
 
