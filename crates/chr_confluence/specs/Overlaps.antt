@@ -47,7 +47,7 @@ abbrev pub renamed_apart : ℕ → Term → Term
 renamed_apart k (Variable x) = Variable (k + x)
 renamed_apart k (Constant c) = Constant c
 
--- argument by argument, for each matched place
+-- the equations of the arguments at all matched places, where the first rule has k variables
 abbrev pub equations : ℕ → List Pattern → List ℕ → List Pattern → List (Term × Term)
 equations k qs [] ps = []
 equations k qs (e ∷ m) [] = []
