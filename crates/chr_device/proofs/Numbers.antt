@@ -177,7 +177,7 @@ module _ (name : Text) (most : ℕ) (named : IsNamed name most) where
   default_sound id how values rows other sound true = sound
   default_sound id how values rows other sound false = other_sound id how DefaultValue values rows other sound
 
-  -- an option without a value keeps rows sound, and so does its default `false`
+  -- an option without a value, and its default `false`, keep rows sound
   flag_keeps : (again : Bool) (id : Text) → bytes_eq id name ≡ false
       → Keeps AreSound again (with_index 1 (filled (flag_option id)))
   flag_keeps again id other = (
