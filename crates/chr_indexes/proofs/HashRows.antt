@@ -121,7 +121,7 @@ passed n hs bs hash at to from r p within slot other below above l e =
     let ne : r ≡ at - 1 → ⊥ = λ same. other (ap (λ k. get_or hs k 0) (sym same) ∙ w.2) in
     below r (omega (arith, a, ne, p)) (slot_at n hs r w.0 ∙ ap (λ h. h % n) w.2 ∙ sym slot) w.1
 
--- one more row
+-- rows in chains, with one more row
 pub chained_push : (n : ℕ) (rows : List Row) (heads : List ℕ) (x : Row) (s m : ℕ) → AreChained n rows heads
     → s ≡ x.hash % n → s < length heads → x.next ≡ get_or heads s 0 → m ≡ length rows + 1 → length rows + 1 < 2 ^ 32
     → AreChained n (rows ++ x ∷ []) (set heads s m)

@@ -179,7 +179,7 @@ index_kept k before after links more heads kept same linked newest = (
   λ s l. newest_kept (length heads) k before after kept k s (get_or heads s 0) (omega arith) (newest s l),
 )
 
--- one more row
+-- one more row is pushed
 pub kept_push : (rows : List Row) (x : Row) → IsKept (length rows) rows (rows ++ x ∷ [])
 kept_push rows x = record {
   hash = λ q l. ap (λ (r : Row). r.hash) (get_or_append_left rows (x ∷ []) no_row q l);

@@ -28,7 +28,7 @@ row_slot n rows r = (row_at rows r).hash % n
 abbrev pub LivesIn : ℕ → List Row → ℕ → ℕ → Type 0
 LivesIn n rows slot r = (row_slot n rows r ≡ slot) × ((row_at rows r).alive ≡ true)
 
--- a place of the slot, of which no live row below the bound lies at or above it
+-- the place is 0 or that of a row of the slot, and each live row of the slot below the bound lies below the place
 pub record IsNewest (n : ℕ) (rows : List Row) (bound slot place : ℕ) : Type 0 where
   pub within : place ≤ bound
   pub of_slot : 0 < place → row_slot n rows (place - 1) ≡ slot
