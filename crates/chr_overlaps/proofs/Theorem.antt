@@ -74,7 +74,7 @@ module _ (r s : Rule) where
         touching = g.touching;
       }
 
-  -- none names a place twice, where o does not
+  -- no overlap that goes on from o names a place twice, where o does not
   pub apart : (ps : List Pattern) (o x : Overlap) → IsInjective o.matching.items → In x (overlaps_behind r s ps o)
       → IsInjective x.matching.items
   apart [] o x a i =
@@ -92,7 +92,7 @@ module _ (r s : Rule) where
       let f = follows_means (heads_of s) o.matching.items p m.0 (omega (arith, b)) c.0 in
       apart ps (with_entry o m.0) x (apart_more o.matching.items m.0 a f.0) c.1
 
-  -- none is missing
+  -- no overlap is missing
   pub complete : (ps : List Pattern) (o : Overlap) (t : List ℕ) → SameSymbols (heads_of s) t ps
       → IsInjective (o.matching.items ++ t) → is_touching (with_entries o t) ≡ true
       → In (with_entries o t) (overlaps_behind r s ps o)
