@@ -19,9 +19,9 @@ use chr_indexes::ranges::Range;
 /// Where a value of a key comes from.
 #[derive(Clone, Copy, Debug, PartialEq, Eq)]
 pub enum Source {
-    /// The rule has this value there.
+    /// The value is a constant of the rule.
     Constant(i64),
-    /// It is this argument, counted from 0, of the head at this place.
+    /// The value is an argument, its column counted from 0, of the head at a place.
     Argument { place: usize, column: usize },
 }
 

@@ -15,7 +15,7 @@ use chr_base::limits::{MAX_ARITY, MAX_COMPARISONS, MAX_HEADS};
 use chr_base::rule::Rule;
 use chr_base::term::{Cmp, Comparison, Pattern, Term};
 
-/// Whether a place is one of these.
+/// Whether a place is one of the known ones.
 fn is_in(place: usize, known: &[usize]) -> bool
     ensures { result ≡ is_in place known.now }
 {
