@@ -53,7 +53,7 @@ struct Sizes {
     most: usize,
 }
 
-/// One store in both pools.
+/// Rests one store in both pools.
 fn rest_in_both(
     rt: &impl Abort,
     alloc: Global,
