@@ -1,4 +1,4 @@
--- The atoms of an instance lie in one pool, and so do those that it puts in.
+-- The atoms of an instance, and those that it puts in, lie in one pool.
 use Rattle.std.specs.Prelude.{◌≡◌, ℕ, zero, suc, ℤ, ◌+◌, ◌-◌, ◌<◌, ◌≤◌, ◌%◌, List, [], ◌∷◌}
 use Rattle.std.specs.Prelude.{Some}
 use Rattle.std.specs.Prelude.{slice_get, cond, All, length, set, nat_lt}
