@@ -1,4 +1,4 @@
--- Finest sorts are one at all positions, and so are the sorted cases by them.
+-- Any two finest sorts are the same at all positions, and give an overlap the same sorted cases.
 use Rattle.std.specs.Prelude.{◌≡◌, ℕ, suc, ◌+◌, ◌-◌, ◌<◌, ◌≤◌, ◌<ℤ◌, ◌⊎◌, ℤ, Bool, true, false, cond, nat_le, List, []}
 use Rattle.std.specs.Prelude.{◌∷◌, ◌++◌, map, length}
 use Rattle.std.proofs.Common.{refl, sym, ap, subst, ◌∙◌, arith, inl, inr}
