@@ -21,9 +21,9 @@ pub fn carry()
 {}
 
 /// Sorted maps. Sorts that fit rules join all positions at which one variable of a rule stands, in heads or in the
-/// body, and those of two variables that a guard compares. A sorted map has a map of values for each sort, which fixes
-/// the constants of the sort, keeps the order of values where the program looks at it, keeps them apart where it looks
-/// at no more than that, and else is any map. It carries each step, and steps keep values within their sorts.
+/// body, and those of two variables that a guard compares. A sorted map has a map of values for each sort. This fixes
+/// the constants of the sort, and keeps of its values what the program compares: their order, or which of them are
+/// equal, or nothing. A sorted map carries each step, and steps keep values within their sorts.
 pub fn sorted_maps()
     ensures values { SortsStay }
     ensures steps { SortedStepsAreCarried }
@@ -41,10 +41,10 @@ pub fn sorted_lists()
     ensures combinations { CombinationsCover }
 {}
 
-/// The sorted cases of an overlap are those at lists of values of its free classes that cover, sort by sort, all lists
-/// of 64-bit values, and at which both guards hold. The classes are those of the matching's equations and of the `=:=`
-/// of both guards. They suffice: every case of 64-bit values is the image of one of them under a sorted map, with its
-/// store and both its sides. And each is a case, of 64-bit values where the listed values are such.
+/// The sorted cases of an overlap are those at some lists of values of its free classes, at which both guards hold. The
+/// classes are those of the matching's equations and of the `=:=` of both guards. The lists cover, sort by sort, all
+/// lists of 64-bit values. So sorted cases suffice: every case of 64-bit values is the image of one of them under a
+/// sorted map, with its store and both its sides. Each of them is a case, of 64-bit values where the listed values are.
 pub fn sorted_cases()
     ensures every { EveryCaseIsSorted }
     ensures cases { SortedAreCases }
