@@ -11,7 +11,7 @@ use std::process::Abort;
 /// The column by whose order the indexes go.
 const ORDER: usize = 1;
 
-/// Any seed does.
+/// A seed, as good as any.
 const SEED: u64 = 1;
 
 /// A row of a table: its atom has these two arguments.
