@@ -1,8 +1,8 @@
 //! The search for representatives, one class after the other.
 //!
-//! A prefix lacks some values: those between one of its values and the number that this is counted from. They are its
-//! holes. A value is tried only where the holes that are then left fit into the classes that are left, so each prefix
-//! can be completed, and the lists come in lexicographic order.
+//! Each value is counted from its base, and a list has all numbers between a value and its base. Those that a prefix
+//! lacks are its holes. A value is tried only where the holes that are then left fit into the classes that are left, so
+//! each prefix can be completed, and the lists come in lexicographic order.
 ghost use Rattle.std.specs.Prelude.{◌≡◌, ◌≢◌, ◌||◌, ℕ, ℤ, List, ◌+◌, ◌<◌, ◌≤◌, ◌++◌, [], ◌∷◌, cond, OnOk, OnErr, IfOk};
 ghost use Rattle.std.specs.Prelude.{IfErr, IsSome, IfSome, IsTrue, ◌↔◌, length, map, vec_len};
 ghost use Rattle.chr_types.specs.working.Search.{toward, way, others, has, holes_by, lists_over};
