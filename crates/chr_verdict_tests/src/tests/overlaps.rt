@@ -62,7 +62,7 @@ fn overlaps_between(
     overlaps_of(alloc, weighed, start..end).expect(rt, "memory")
 }
 
-/// Whether each of these is among all, and its first rule is one of the portion's.
+/// Whether each of `some` is among `all`, and its first rule is one of the portion's.
 fn are_of_portion(some: &[Overlap], all: &[Overlap], start: usize, end: usize) -> bool {
     for overlap in some {
         let first = overlap.first as usize;
