@@ -72,7 +72,7 @@ taken_times f [] times = 0
 taken_times f (x ∷ xs) [] = 0
 taken_times f (x ∷ xs) (k ∷ times) = k * f x + taken_times f xs times
 
--- where f is less than g for each item, so is its sum, by the number of times at least
+-- where f is less than g for each item, the sum by f is less by the number of all times at least
 pub taken_less : {A : Type 0} (f g : A → ℕ) (xs : List A) (times : List ℕ) → length times ≡ length xs
     → ((i : ℕ) (x : A) → slice_get xs i ≡ Some x → f x < g x)
     → taken_times f xs times + sum times ≤ taken_times g xs times
