@@ -114,7 +114,7 @@ atoms_more w xs i x s y t l is h e h2 =
     let b = total_more (λ q. (w q).second) xs i x l is in
     h2 ∙ (λ k. sum (h k) (e k)) ∙ sym (λ k. record { first = a k; second = b k })
 
--- the rules so far, and one more
+-- where the rules before a place lower the weights, and the rule there does, one rule more does
 pub lowers_more : (p : Program) (rs : List Rule) (n : ℕ) (x : Rule) → rs ≡ rules_of p → n < length rs
     → x ≡ get_or rs n x → ((k : ℕ) (r : Rule) → k < n → slice_get (rules_of p) k ≡ Some r → IsLowering (weight_in p) r)
     → IsLowering (weight_in p) x
