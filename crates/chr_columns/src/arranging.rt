@@ -22,7 +22,7 @@ struct Arrangement {
     crossed: Option<usize>,
 }
 
-/// The first column of a plan by which rows are left behind in two columns.
+/// The first of the two columns by which a plan leaves out rows, where it does so by two columns.
 fn crossed_in(plan: &Plan) -> Option<usize> {
     for lookup in plan.lookups.as_slice() {
         if let Order::ByBoth(first, _) = lookup.partner.order {

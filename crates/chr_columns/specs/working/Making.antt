@@ -9,7 +9,7 @@ use Rattle.chr_columns.specs.declared.making.Way.{Way}
 use Rattle.chr_columns.specs.working.Groups.{shapes_of}
 use Rattle.chr_columns.specs.working.Resting.{HasPlan}
 
--- the columns of an index, and those by whose values it leaves rows behind
+-- the columns of an index, and its order, by whose values it leaves out rows
 abbrev pub made_way : Way → List ℕ × Order
 made_way w = (w.columns.items, w.order)
 

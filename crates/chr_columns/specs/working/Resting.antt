@@ -66,8 +66,8 @@ abbrev pub AreCovered : List Rule → List Group → ℕ → Type 0
 AreCovered rules groups n =
     (i : ℕ) (r : Rule) → i < n → slice_get rules i ≡ Some r → HavePlans groups i r 0
 
--- there is a table for each group and one more, each atom is in its table, and each head place has a plan,
--- its own or that of a place that reads like it
+-- There is a table for each group and one more, and each atom is in its table. Each head place has a plan, its own or
+-- that of a place that reads like it.
 pub record IsSetUp (rules : List Rule) (groups : List Group) (rows : Tables) (columns : Columns)
     (count : ℕ) : Type 0 where
   pub tables : count ≡ length groups + 1
