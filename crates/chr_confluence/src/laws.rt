@@ -57,9 +57,9 @@ pub fn confluence()
     ensures failing { FailingCaseRefutes }
 {}
 
-/// Confluence in the usual sense. Under rules that lower a weight each store of 64-bit values has one normal form just
-/// where any two stores that are reached from one such store are joinable (as Abdennadher, Frühwirth and Meuss 1999 and
-/// Frühwirth 2009 say it).
+/// Confluence in the usual sense: any two stores that one store of 64-bit values reaches are joinable (as Abdennadher,
+/// Frühwirth and Meuss 1999 and Frühwirth 2009 say it). Rules that lower a weight are confluent in this sense just
+/// where each such store has one normal form.
 pub fn joinability()
     ensures joinable { ConfluentAreJoinable }
     ensures confluent { JoinableAreConfluent }

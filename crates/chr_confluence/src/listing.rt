@@ -15,9 +15,9 @@ pub fn classes()
 /// The listed cases of an overlap are those at the representatives of its order types at which both guards hold. An
 /// overlap whose equations no valuation meets has none.
 ///
-/// They suffice: where the sides of each listed case are joinable, the sides of every case of 64-bit values are, since
-/// a map that keeps the order of values and fixes the rules' constants makes it of a listed one. Each listed case is a
-/// case of 64-bit values.
+/// They suffice: where the sides of each listed case are joinable, the sides of every case of 64-bit values are. For a
+/// map that keeps the order of values and fixes the rules' constants makes each such case of a listed one. Each listed
+/// case is a case of 64-bit values.
 ///
 /// That finitely many overlaps suffice is the critical pair argument of Abdennadher, Frühwirth and Meuss 1999. That
 /// finitely many values suffice, with guards that compare 64-bit numbers and so leave gaps of few whole numbers between
