@@ -34,7 +34,7 @@ pub record IsNewest (n : ℕ) (rows : List Row) (bound slot place : ℕ) : Type 
   pub of_slot : 0 < place → row_slot n rows (place - 1) ≡ slot
   pub none_above : (q : ℕ) → q < bound → LivesIn n rows slot q → q < place
 
--- the link leads down the chain of the row, and has the bounds of what a jump leaves behind
+-- the link leads down the chain of the row, and has the bounds of the rows that a jump skips
 pub record IsLink (n : ℕ) (rows : List Row) (r : ℕ) (l : Link) : Type 0 where
   pub next : IsNewest n rows r (row_slot n rows r) l.next
   pub jump : l.jump ≤ r

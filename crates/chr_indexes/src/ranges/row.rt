@@ -18,8 +18,8 @@ pub(crate) struct Row {
 /// end.
 ///
 /// Chained rows are the roots of trees, one after another, the newest row first. Two trees of one rank become the
-/// branches of the next row that is pushed, so a chain of n rows has fewer than 2 * log2 (n + 1) trees, each of that
-/// depth at most, and a look-up enters no tree whose bounds lie outside its range.
+/// branches of the next row that is pushed. So a chain of n rows has fewer than 2 * log2 (n + 1) trees, each of that
+/// depth at most. A look-up enters no tree whose bounds lie outside its range.
 #[derive(Clone, Copy, Debug, Default, PartialEq, Eq)]
 pub(crate) struct Link {
     /// Bounds of the values of all live rows of the row's tree, which are those above `jump`.
