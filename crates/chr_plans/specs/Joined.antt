@@ -25,8 +25,8 @@ HasThere columns x p = slice_get p.args.items (column_in columns p.symbol) ≡ S
 abbrev pub IsJoined : List ℕ → Rule → Type 0
 IsJoined columns r = (x : ℕ) × All (HasThere columns x) (heads_of r)
 
--- some variable stands in the joining column of all heads and all atoms of the body of the rule, so that a step leads
--- from atoms of one value to atoms of that value
+-- Some variable stands in the joining column of all heads and all atoms of the body of the rule. So a step leads from
+-- atoms of one value to atoms of that value.
 abbrev pub IsLocal : List ℕ → Rule → Type 0
 IsLocal columns r = (x : ℕ) × All (HasThere columns x) (heads_of r) × All (HasThere columns x) r.body.items
 

@@ -234,7 +234,7 @@ fn column_beside(limits: &[Limit], other: Option<usize>) -> Option<usize> {
     }
 }
 
-/// The columns by which the limits leave most rows behind: those of orders come before those of inequalities.
+/// The columns by which the limits leave out most rows: those of orders come before those of inequalities.
 pub fn order_of(limits: &[Limit]) -> Order {
     let Some(first) = column_beside(limits, None) else {
         return Order::Unordered;

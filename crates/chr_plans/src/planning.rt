@@ -300,8 +300,8 @@ fn is_in_column(source: Source, column: usize) -> bool {
 /// and its whole guard is a `=<` or `>=` of the arguments in one column: of two such atoms one can be the first head,
 /// and the other the second.
 ///
-/// More can rest under `<` and `>`, where they are equal in the column, where the heads have two symbols, where there
-/// is a third head, and where a further comparison keeps them apart.
+/// In other cases more can rest: under `<` and `>` those that are equal in the column; under any sign atoms of two
+/// symbols, those of three heads, and those that a further comparison keeps apart.
 fn leaves_one(
     rule: &Rule,
     known: &[usize],
