@@ -44,7 +44,7 @@ impl Bag {
         }
     }
 
-    /// Adds an atom.
+    /// Adds an atom. Where memory is refused nothing changes.
     pub fn add(&mut self, atom: Atom) -> Result<(), AllocError>
         ensures ok { OnOk result (self.new ≡ bag.add self.old atom) }
         ensures err { OnErr result (self.new ≡ self.old) }
@@ -79,7 +79,7 @@ impl Bag {
         self.atoms().len()
     }
 
-    /// Whether there is none.
+    /// Whether the bag has no atoms.
     pub fn is_empty(&self) -> bool
         ensures { IsTrue result ↔ (self.now ≡ bag.empty) }
     {

@@ -63,7 +63,7 @@ pub fn take_out(items: &mut Vec<Atom>, atom: &Atom)
     }
 }
 
-/// Whether each atom of the one list stands in the other at least as often. Each costs a walk through both.
+/// Whether each atom of `atoms` stands in `items` at least as often. Each atom costs a walk through both lists.
 pub fn fits_in(atoms: &[Atom], items: &[Atom]) -> bool
     ensures { IsTrue result ↔ ((q : AtomValue) → count_in atom_cmp q atoms.now ≤ count_in atom_cmp q items.now) }
 {

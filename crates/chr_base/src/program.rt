@@ -178,7 +178,7 @@ impl Program {
         true
     }
 
-    /// Declares one more symbol, of the default weight.
+    /// Declares a new symbol, of the default weight. Where memory is refused nothing changes.
     pub fn declare(&mut self, name: &str, arity: usize) -> Result<(), AllocError>
         requires room { length (declarations self.old) < MAX_SYMBOLS }
         requires name { length name.now ≤ MAX_NAME }
@@ -204,7 +204,7 @@ impl Program {
         put_weight(&mut self.symbols, usize::from(symbol.0), weight);
     }
 
-    /// Adds a rule at the end.
+    /// Adds a rule at the end. Where memory is refused nothing changes.
     pub fn push_rule(&mut self, rule: Rule) -> Result<(), AllocError>
         requires room { length (rules_of self.old) < MAX_RULES }
         requires declared { IsTrue (fits (declarations self.old) rule) }
