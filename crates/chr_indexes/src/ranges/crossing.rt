@@ -76,7 +76,7 @@ impl Crossing {
         })
     }
 
-    /// Makes room for `more` rows more.
+    /// Makes room for `more` rows more. No row changes, even where memory is refused.
     pub fn reserve(&mut self, more: usize) -> Result<(), AllocError>
         requires { length self.old.rows + more < 2 ^ 32 }
         ensures rows { self.new.rows ≡ self.old.rows }
@@ -99,7 +99,7 @@ impl Crossing {
         self.second.push(hash, second);
     }
 
-    /// Forgets all rows. The room stays, and is room for as many.
+    /// Forgets all rows. The room for them stays.
     pub fn clear(&mut self)
         ensures rows { self.new.rows ≡ [] }
         ensures room { self.new.room ≡ self.old.room }
@@ -109,7 +109,7 @@ impl Crossing {
         self.second.clear();
     }
 
-    /// A row dies.
+    /// Marks a row as dead. It keeps its number.
     pub fn kill(&mut self, row: u32)
         requires { row < length self.old.rows }
         ensures rows { self.new.rows ≡ set self.old.rows row None }

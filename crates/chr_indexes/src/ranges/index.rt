@@ -50,7 +50,7 @@ impl Index {
         })
     }
 
-    /// Makes room for `more` rows more. The slots grow with the rows.
+    /// Makes room for `more` rows more. The slots grow with the rows. No row changes, even where memory is refused.
     pub fn reserve(&mut self, more: usize) -> Result<(), AllocError>
         requires { length self.old.rows + more < 2 ^ 32 }
         ensures rows { self.new.rows ≡ self.old.rows }
@@ -84,7 +84,7 @@ impl Index {
         join(&self.rows, &mut self.chains, row);
     }
 
-    /// Forgets all rows. The room stays, and is room for as many.
+    /// Forgets all rows. The room for them stays.
     pub fn clear(&mut self)
         ensures rows { self.new.rows ≡ [] }
         ensures room { self.new.room ≡ self.old.room }
@@ -95,7 +95,7 @@ impl Index {
         self.chains.heads.fill(0);
     }
 
-    /// A row dies.
+    /// Marks a row as dead. It keeps its number.
     pub fn kill(&mut self, row: u32)
         requires { row < length self.old.rows }
         ensures rows { self.new.rows ≡ set self.old.rows row None }
