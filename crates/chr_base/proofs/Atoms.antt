@@ -28,14 +28,14 @@ args_exact xs ys h = by (nat_cmp (length xs) (length ys)) h
     by order.Equal g = slice_cmp-IsAntisymmetric int_cmp-IsAntisymmetric xs ys g
     by order.Greater g = absurd (cc)
 
--- atoms that compare alike are one
+-- atoms that compare as equal are one atom
 pub atom_exact : IsAntisymmetric atom_cmp
 atom_exact a b h =
     ap (λ (p : ℕ × List ℤ). record { symbol = record { 0 = p.0 }; args = record { items = p.1 } })
     (exact_pairs nat_cmp (λ (xs ys : List ℤ). ordering_then (nat_cmp (length xs) (length ys)) (slice_cmp int_cmp xs ys))
     nat_cmp-IsAntisymmetric args_exact (a.symbol.0, a.args.items) (b.symbol.0, b.args.items) h)
 
--- atoms that are found the same are one
+-- atoms that the code's test finds equal are one atom
 pub same_is : (a b : Atom) → eq_by_cmp atom_cmp a b ≡ true → a ≡ b
 same_is a b h = atom_exact a b (by (atom_cmp a b) h)
   where

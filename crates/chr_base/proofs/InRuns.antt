@@ -105,7 +105,7 @@ counts_flat ds rs ss q p =
     ∙ sym (total_is (λ r. total f r.now) rs)
     ∙ sym (total-flat f (λ r. r.now) rs)
 
--- so they are the atoms in printed order
+-- runs in which no atom is printed before one of an earlier run are the atoms in printed order
 pub runs_in_order : (ds : List Declaration) (atoms : List Atom) (rs ss : List (Bor (List Atom))) → flat rs ≡ atoms
     → All (λ r. IsRun r.now) rs → IsPermutation rs ss
     → ((k : ℕ) (d : Bor (List Atom)) → k + 1 < length ss → Precedes ds (get_or ss k d).now (get_or ss (k + 1) d).now)
@@ -146,7 +146,7 @@ runs_text ds whole r rs out mid new e runs m n =
     ∙ sym (joined ds r.now (flat rs) one.some))
     ∙ ap (λ w. out ++ atoms_text ds (flat w)) (sym e)
 
--- one piece more is written, and so many fewer are left
+-- the text of one more piece is written, and the pieces after it are left
 pub one_piece : {X : Type 0} (h : X → List ℕ) (xs : List X) (i : ℕ) (x : X) (out new whole : List ℕ) → i < length xs
     → x ≡ get_or xs i x → out ++ flat_map h (drop i xs) ≡ whole → new ≡ out ++ h x → new ++ flat_map h (drop (i + 1) xs)
     ≡ whole

@@ -66,7 +66,7 @@ module _ {K : Type 0} (R : K → K → Ordering) where
     tied_counts q x [] p = refl
     tied_counts q x (y ∷ ys) p = λ i. cond (is_eq (o.congr q x y p i)) 1 0 + tied_counts q x ys p i
 
-    -- each item of xs stands in ys as often as in xs: then so does everything
+    -- where each item of xs stands in ys at least as often as in xs, no item at all stands in xs more often than in ys
     pub within_from_each : (xs ys : List K) (d : K) → ((i : ℕ) → i < length xs
         → count_in R (get_or xs i d) xs ≤ count_in R (get_or xs i d) ys) → (q : K) → count_in R q xs ≤ count_in R q ys
     within_from_each xs ys d each q =

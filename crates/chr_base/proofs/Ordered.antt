@@ -25,7 +25,7 @@ module _ {K : Type 0} {R : K → K → Ordering} (o : IsTotalOrder R) where
       by order.Equal p = refl
       by order.Greater p = refl
 
-  -- one more in front of items that never fall
+  -- items that never fall, with one in front that is not after the first of them, never fall
   pub rising_more : (x y : K) (ys : List K) → is_gt (R x y) ≡ false → IsTrue (is_rising R (y ∷ ys))
       → IsTrue (is_rising R (x ∷ y ∷ ys))
   rising_more x y ys step more =
@@ -61,7 +61,7 @@ module _ {K : Type 0} {R : K → K → Ordering} (o : IsTotalOrder R) where
       omega arith in p a b (ap (slice_get (x ∷ z ∷ zs)) e ∙ k) l))
 
   module _ (exact : IsAntisymmetric R) where
-    -- another order, the same multiset
+    -- lists of the same items in different orders make the same multiset
     pub same_multiset : (xs ys : List K) → IsPermutation xs ys → bag.of_list {R = R} ys ≡ bag.of_list xs
     same_multiset xs ys p = bag_laws.same_bag o exact _ _ (λ q.
         bag_laws.count-of_list o ys q

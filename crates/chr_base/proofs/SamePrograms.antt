@@ -16,7 +16,7 @@ use Rattle.chr_base.specs.ProgramTests.{declared}
 use Rattle.chr_base.specs.Sameness.{AreSame, parts_of}
 use Rattle.chr_base.proofs.SameRules.{both_decide, parts_decide, pattern_decides, comparison_decides}
 
--- where the items' test decides that g sees them alike, so does the lists'
+-- where a test of items decides whether g makes them equal, the test of lists decides whether `map g` makes these equal
 seen_alike : {A B : Type 0} (E : A → A → Bool) (g : A → B) → ((a b : A) → Decides (E a b) (g a ≡ g b))
     → (xs ys : List A) → Decides (pointwise E xs ys) (map g xs ≡ map g ys)
 seen_alike E g d [] [] = (λ h. refl, λ e. refl)

@@ -1,4 +1,4 @@
--- Two stores are one or not.
+-- Whether two stores are equal is decided.
 use Rattle.std.specs.Prelude.{◌≡◌, ◌≢◌, ◌⊎◌}
 use Rattle.std.proofs.Common.{refl, sym, ap, ◌∙◌, inl, inr}
 use mathlib.Core.Bool.{true≢false}

@@ -18,7 +18,7 @@ use Rattle.chr_base.specs.FinBag.{◌⊕◌, is_rising, none_below, total}
 use Rattle.chr_base.proofs.FinBags.{none_below_further, total_is, is_true, from_true}
 use mathlib.Core.Bool.{true≢false}
 
--- another order, the same multiset
+-- lists of the same atoms in different orders make the same multiset
 pub same_multiset : (xs ys : List Atom) → IsPermutation xs ys → store_of ys ≡ store_of xs
 same_multiset xs ys p = ordered.same_multiset atom_total atom_exact xs ys p
 

@@ -78,7 +78,7 @@ heads_length r heads h =
     let c = length-append r.kept.items r.removed.items in
     omega (arith, a, b, c)
 
--- the removed heads are there, as the heads are
+-- the removed heads are there, since all heads are
 pub removed_within : (r : Rule) (heads : List Atom) (s : Store) → HasInstance r heads → IsWithin (store_of heads) s
     → IsWithin (store_of (drop (length r.kept.items) heads)) s
 removed_within r heads s h w = rw (removed_heads r heads h.0 h.1) (removed_there r h.0 s (rw h.1 w))

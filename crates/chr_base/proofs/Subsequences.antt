@@ -108,7 +108,7 @@ found (x ∷ xs) (y ∷ ys) h g c = by (atom_cmp y x) refl
             let d : ◌≡◌ {A = ℕ} (cond (eq_by_cmp atom_cmp q x) 1 0) 0 = rw e refl in
             omega (arith, a, d)
 
--- so it does just where it has no item more often
+-- of two lists in order, one stands within the other just where it has no item more often
 pub stands_just_where_counts : (xs ys : List Atom) → IsTrue (is_rising atom_cmp xs) → IsTrue (is_rising atom_cmp ys)
     → ((q : Atom) → count_in atom_cmp q ys ≤ count_in atom_cmp q xs) → is_subsequence atom_cmp xs ys ≡ true
 stands_just_where_counts xs ys h g c = found xs ys (from_true _ h) (from_true _ g) c
@@ -174,7 +174,7 @@ passed xs ys ws whole kept i x w l is same h = record {
       ap (λ zs. take kept xs ++ zs) (sym e) ∙ h.done);
 }
 
--- another is moved down
+-- an item that is not wanted is moved down
 moved : (xs ys ws whole : List Atom) (kept i : ℕ) (x : Atom) → i < length xs → x ≡ get_or xs i x
     → without_subsequence atom_cmp (x ∷ drop (i + 1) ys) ws ≡ x ∷ without_subsequence atom_cmp (drop (i + 1) ys) ws
     → IsAt xs ys ws whole kept i → IsAt (swap xs kept i) ys ws whole (kept + 1) (i + 1)

@@ -30,7 +30,7 @@ numbered-append n (Variable x ∷ ts) us = by (nat_eq x (n + 1)) (nat_lt 0 x && 
     by false true p q = q
     by false false p q = refl
 
--- what is numbered as a whole is so in its first part
+-- where the variables of two lists in a row are numbered, those of the first list are
 pub first_numbered : (n : ℕ) (ts us : List Term) → is_some (numbered n (ts ++ us)) ≡ true → is_some (numbered n ts)
     ≡ true
 first_numbered n ts us h = by (numbered n ts) (rw (numbered-append n ts us) at h)

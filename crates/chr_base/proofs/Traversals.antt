@@ -26,13 +26,13 @@ front_at f v xs k d y ys within read =
     ∙ ap (λ o. front ys (option_and_then (λ y. option_map (λ zs. y ∷ zs) (each f (map v (drop (k + 1) xs)))) o)) read
     ∙ front_push ys y (each f (map v (drop (k + 1) xs)))
 
--- the same of an element by its name
+-- the k-th element is read, where x is its name
 pub front_step : {A B C : Type 0} (f : B → Option C) (v : A → B) (xs : List A) (k : ℕ) (x : A) (y : C) (ys : List C)
     → k < length xs → x ≡ get_or xs k x → f (v x) ≡ Some y
     → front ys (each f (map v (drop k xs))) ≡ front (ys ++ y ∷ []) (each f (map v (drop (k + 1) xs)))
 front_step f v xs k x y ys within is_x read = front_at f v xs k x y ys within (subst (λ z. f (v z) ≡ Some y) is_x read)
 
--- as many are read as there are
+-- as many values are read as the list has elements
 pub length-each : {A B : Type 0} (f : A → Option B) (xs : List A) (ys : List B) → each f xs ≡ Some ys → length ys
     ≡ length xs
 length-each f [] ys h = ap length (let e : ys ≡ [] = cc in e)

@@ -21,7 +21,7 @@ module _ {K : Type 0} (R : K → K → Ordering) where
   is_rising [] = true
   is_rising (x ∷ xs) = none_below x xs && is_rising xs
 
-  -- one item more, before the first that it does not come after
+  -- the list with an item put in, before the first that it does not come after
   abbrev pub put : K → List K → List K
   put k [] = k ∷ []
   put k (e ∷ es) = if is_gt (R k e) then e ∷ put k es else k ∷ e ∷ es
@@ -31,12 +31,12 @@ module _ {K : Type 0} (R : K → K → Ordering) where
   insertion_sort [] = []
   insertion_sort (k ∷ ks) = put k (insertion_sort ks)
 
-  -- one item less, where it stands there
+  -- the list without an item, where that stands there
   abbrev pub without : K → List K → List K
   without k [] = []
   without k (e ∷ es) = if eq_by_cmp R k e then es else e ∷ without k es
 
-  -- each of these items less, where it stands there
+  -- the second list without each of the items of the first, where that stands there
   abbrev pub without_all : List K → List K → List K
   without_all [] es = es
   without_all (k ∷ ks) es = without k (without_all ks es)
@@ -50,7 +50,7 @@ pub record FinBag {K : Type 0} (R : K → K → Ordering) : Type 0 where
   pub sorted : T (is_rising R list)
 
 module _ {K : Type 0} {R : K → K → Ordering} where
-  -- in order, one that occurs more than once as often as it does
+  -- the items of a multiset in order, one that occurs more than once as often as it does
   unfoldable pub items : FinBag R → List K
   items s = s.list
 
@@ -66,7 +66,7 @@ module _ {K : Type 0} {R : K → K → Ordering} where
   unfoldable pub of_list : List K → FinBag R
   of_list ks = rising_bag (insertion_sort R ks) (is_rising R (insertion_sort R ks)) refl
 
-  -- how often an item stands in it
+  -- how often an item stands in a multiset
   unfoldable pub count : FinBag R → K → ℕ
   count s q = count_in R q (items s)
 
@@ -74,11 +74,11 @@ module _ {K : Type 0} {R : K → K → Ordering} where
   abbrev pub len : FinBag R → ℕ
   len s = length (items s)
 
-  -- one item more
+  -- the multiset with one item more
   unfoldable pub add : FinBag R → K → FinBag R
   add s k = of_list (k ∷ items s)
 
-  -- the sum
+  -- the sum of two multisets, in which an item stands as often as in both together
   infixl 6 ◌⊕◌
   unfoldable pub ◌⊕◌ : FinBag R → FinBag R → FinBag R
   s ⊕ t = of_list (items s ++ items t)
@@ -92,6 +92,6 @@ module _ {K : Type 0} {R : K → K → Ordering} where
   abbrev pub IsWithin : FinBag R → FinBag R → Type 0
   IsWithin s t = (q : K) → count s q ≤ count t q
 
-  -- a number for each item, summed
+  -- what f gives for the items, summed
   unfoldable pub sum_over : (K → ℕ) → FinBag R → ℕ
   sum_over f s = total f (items s)

@@ -50,7 +50,7 @@ WithinIsPart = (s t : Store) → IsWithin s t ↔ ((rest : Store) × (t ≡ rest
 abbrev pub SameProgramsStepAlike : Type 0
 SameProgramsStepAlike = (p q : Program) → AreSame p q → (s t : Store) → Step (rules_of p) s t ↔ Step (rules_of q) s t
 
--- and so reach the same stores
+-- programs that are the same reach the same stores
 abbrev pub SameProgramsReachAlike : Type 0
 SameProgramsReachAlike =
     (p q : Program) → AreSame p q → (s t : Store) → Reaches (Step (rules_of p)) s t ↔ Reaches (Step (rules_of q)) s t

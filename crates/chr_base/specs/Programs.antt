@@ -5,11 +5,11 @@ use Rattle.chr_base.specs.declared.rule.Rule.{Rule}
 use Rattle.chr_base.specs.declared.program.Program.{Program}
 use Rattle.chr_base.specs.ProgramTests.{Declaration, declared, takes, declares}
 
--- its declarations, in order
+-- the declarations of a program, in order
 abbrev pub declarations : Program → List Declaration
 declarations p = map declared p.symbols.entries
 
--- its rules, in order
+-- the rules of a program, in order
 abbrev pub rules_of : Program → List Rule
 rules_of p = p.rules.items
 

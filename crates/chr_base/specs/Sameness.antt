@@ -23,6 +23,6 @@ parts_of r = record {
   body = r.body.items;
 }
 
--- the same declarations and the same rules, each in the same order
+-- two programs have the same declarations and the same rules, each in the same order
 abbrev pub AreSame : Program → Program → Type 0
 AreSame p q = (declarations p ≡ declarations q) × (map parts_of (rules_of p) ≡ map parts_of (rules_of q))

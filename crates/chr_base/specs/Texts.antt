@@ -27,7 +27,7 @@ print_cmp ds a b =
     (ordering_then (nat_cmp (length a.args.items) (length b.args.items))
     (ordering_then (slice_cmp int_cmp a.args.items b.args.items) (nat_cmp a.symbol.0 b.symbol.0)))
 
--- the atoms of a store in that order, one that occurs more than once as often as it does
+-- the atoms of a store in the order in which they are printed, one that occurs more than once as often as it does
 abbrev pub in_print_order : List Declaration → Store → List Atom
 in_print_order ds s = bag.items (bag.of_list {R = print_cmp ds} (bag.items s))
 

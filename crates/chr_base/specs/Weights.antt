@@ -6,11 +6,11 @@ use Rattle.chr_base.specs.declared.limits.TheConstants.{MAX_BODY, MAX_WEIGHT}
 use Rattle.chr_base.specs.declared.weight.Weight.{Weight}
 use Rattle.chr_base.specs.FinBag.{total}
 
--- compared by the first numbers, and then by the second
+-- the first weight is less: by the first numbers or, where these are equal, by the second
 abbrev pub IsLighter : Weight → Weight → Type 0
 IsLighter v w = (v.first < w.first) ⊎ ((v.first ≡ w.first) × (v.second < w.second))
 
--- number by number
+-- the sum of two weights, number by number
 abbrev pub sum : Weight → Weight → Weight
 sum v w = record { first = v.first + w.first; second = v.second + w.second }
 
@@ -39,7 +39,7 @@ abbrev pub weight_text : Bool → Weight → List ℕ
 weight_text true w = decimal w.first ++ codes "," ++ decimal w.second
 weight_text false w = decimal w.first
 
--- One number for both, 8,000,001 times the first and the second. Where a rule's body is the lighter side, it is the
--- lower one by this too, since the second numbers of a body sum to at most MAX_BODY * MAX_WEIGHT.
+-- A weight as one number: 8,000,001 times the first number, and the second. Where a rule's body is lighter than its
+-- removed heads, this number is less, too, since the second numbers of a body sum to at most MAX_BODY * MAX_WEIGHT.
 abbrev pub rank : Weight → ℕ
 rank w = (MAX_BODY * MAX_WEIGHT + 1) * w.first + w.second

@@ -45,7 +45,7 @@ impl Atom {
         self.order(other).is_eq()
     }
 
-    /// Becomes the atom of a symbol and these values.
+    /// Becomes the atom of a symbol and these values, at most [`MAX_ARITY`] of them.
     pub fn set(&mut self, symbol: SymbolId, values: &[i64])
         requires { length values.now ≤ MAX_ARITY }
         ensures { self.new ≡ record { symbol = symbol; args = record { items = values.now } } }
@@ -64,7 +64,7 @@ impl Atom {
         self.set(other.symbol, &other.args);
     }
 
-    /// An equal atom. It takes no memory. Where it stays elsewhere, `copy_from` there saves a move.
+    /// An equal atom. It takes no memory. [`Atom::copy_from`] into an atom that is there saves a move.
     pub fn copy(&self) -> Atom
         ensures { result ≡ self.now }
     {

@@ -35,7 +35,7 @@ impl Model for Bag {
 }
 
 impl Bag {
-    /// The empty one.
+    /// The empty bag.
     pub fn new(alloc: Global) -> Self
         ensures { result ≡ bag.empty }
     {
@@ -44,7 +44,7 @@ impl Bag {
         }
     }
 
-    /// Adds an atom.
+    /// Adds an atom. Where memory is refused nothing changes.
     pub fn add(&mut self, atom: Atom) -> Result<(), AllocError>
         ensures ok { OnOk result (self.new ≡ bag.add self.old atom) }
         ensures err { OnErr result (self.new ≡ self.old) }
@@ -79,14 +79,14 @@ impl Bag {
         self.atoms().len()
     }
 
-    /// Whether there is none.
+    /// Whether the bag has no atoms.
     pub fn is_empty(&self) -> bool
         ensures { IsTrue result ↔ (self.now ≡ bag.empty) }
     {
         self.atoms().is_empty()
     }
 
-    /// Adds all atoms of another bag.
+    /// Adds all atoms of another bag: all of them, or none where memory is refused.
     pub fn union(&mut self, other: &Bag) -> Result<(), AllocError>
         ensures ok { OnOk result (self.new ≡ self.old ⊕ other.now) }
         ensures err { OnErr result (self.new ≡ self.old) }
@@ -119,8 +119,8 @@ impl Bag {
         lists::same_atoms(&self.items, &other.items)
     }
 
-    /// Takes all of these atoms out, or none where they are not there. It takes no memory. Where the atoms are in
-    /// order, as those of a bag are, it walks the bag twice; else once and more for each atom.
+    /// Takes all of these atoms out, or none where they are not all there. It takes no memory. It walks the bag twice
+    /// where the atoms are in order, as those of a bag are, and else at least once for each of them.
     pub fn remove_all(&mut self, atoms: &[Atom]) -> bool
         ensures there { IsTrue result ↔ bag.IsWithin (bag.of_list atoms.now) self.old }
         ensures taken { OnTrue result (self.new ≡ self.old ⊖ bag.of_list atoms.now) }

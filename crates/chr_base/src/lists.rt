@@ -27,7 +27,7 @@ pub fn count_of(items: &[Atom], atom: &Atom) -> usize
     count
 }
 
-/// Where an atom goes in.
+/// The place where an atom goes into a list in order: before the first item that it isn't after.
 pub(crate) fn place_of(items: &[Atom], atom: &Atom) -> usize
     ensures within { result ≤ length items.now }
     ensures place { put atom_cmp atom.now items.now ≡ insert items.now result atom.now }
@@ -40,7 +40,7 @@ pub(crate) fn place_of(items: &[Atom], atom: &Atom) -> usize
     items.len()
 }
 
-/// Where an atom stands.
+/// The place of an atom in a list, where it stands there.
 fn index_of(items: &[Atom], atom: &Atom) -> Option<usize>
     ensures found { IfSome result (λ i.
         (i < length items.now) × (without atom_cmp atom.now items.now ≡ remove items.now i)) }
@@ -63,7 +63,7 @@ pub fn take_out(items: &mut Vec<Atom>, atom: &Atom)
     }
 }
 
-/// Whether each atom of the one list stands in the other at least as often. Each costs a walk through both.
+/// Whether each atom of `atoms` stands in `items` at least as often. Each atom costs a walk through both lists.
 pub fn fits_in(atoms: &[Atom], items: &[Atom]) -> bool
     ensures { IsTrue result ↔ ((q : AtomValue) → count_in atom_cmp q atoms.now ≤ count_in atom_cmp q items.now) }
 {
@@ -85,7 +85,7 @@ fn take_all_out(items: &mut Vec<Atom>, atoms: &[Atom])
     }
 }
 
-/// Takes all of these atoms out, or none where they are not there. They may stand in any order: each costs a walk.
+/// Takes all of these atoms out, or none where they are not all there. They may stand in any order: each costs a walk.
 pub(crate) fn remove_one_by_one(items: &mut Vec<Atom>, atoms: &[Atom]) -> bool
     ensures there { IsTrue result ↔ AreWithin atoms.now items.old.items }
     ensures taken { OnTrue result (AreLeft items.old.items atoms.now items.new.items) }
@@ -143,7 +143,7 @@ fn take_subsequence_out(items: &mut Vec<Atom>, atoms: &[Atom])
     items.truncate(kept);
 }
 
-/// Takes all of these atoms out, or none where they are not there. Both lists are in order, so two walks serve.
+/// Takes all of these atoms out, or none where they are not all there. Both lists are in order, so two walks serve.
 pub(crate) fn remove_in_order(items: &mut Vec<Atom>, atoms: &[Atom]) -> bool
     requires items { IsTrue (is_rising atom_cmp items.old.items) }
     requires atoms { IsTrue (is_rising atom_cmp atoms.now) }

@@ -59,7 +59,7 @@ impl Symbol {
         }
     }
 
-    /// None where the name or the number of arguments is greater than any that can be declared.
+    /// The symbol of a name and a number of arguments. None where either is greater than any that can be declared.
     fn new(name: &str, arity: usize) -> Option<Symbol>
         ensures name { IfSome result (λ s. s.name.bytes ≡ name.now) }
         ensures arity { IfSome result (λ s. s.arity ≡ arity) }
@@ -155,7 +155,7 @@ impl Program {
         }
     }
 
-    /// What `symbol` gives, sooner where it is this one: no table is asked then.
+    /// Like [`Program::symbol`], but no table is asked where the symbol is `near`.
     fn symbol_near(&self, near: SymbolId, name: &str, arity: usize) -> Option<SymbolId>
         ensures { option_map (λ s. s.0) result ≡ position (declares name.now arity) (declarations self.now) }
     {
@@ -165,8 +165,8 @@ impl Program {
         self.symbol(name, arity)
     }
 
-    /// Whether the program declares an atom of this name and these arguments, which the given atom then becomes. It is
-    /// found sooner where its symbol is this one.
+    /// Whether the program declares an atom of this name and these arguments, which `atom` then becomes. No table is
+    /// asked where its symbol is `near`.
     pub fn set_atom(&self, near: SymbolId, name: &str, args: &[i64], atom: &mut Atom) -> bool
         ensures found { OnTrue result (declared_atom (declarations self.now) name.now args.now ≡ Some atom.new) }
         ensures none { OnFalse result (declared_atom (declarations self.now) name.now args.now ≡ None) }
@@ -178,7 +178,7 @@ impl Program {
         true
     }
 
-    /// Declares one more symbol, of the default weight.
+    /// Declares a new symbol, of the default weight. Where memory is refused nothing changes.
     pub fn declare(&mut self, name: &str, arity: usize) -> Result<(), AllocError>
         requires room { length (declarations self.old) < MAX_SYMBOLS }
         requires name { length name.now ≤ MAX_NAME }
@@ -204,7 +204,7 @@ impl Program {
         put_weight(&mut self.symbols, usize::from(symbol.0), weight);
     }
 
-    /// Adds a rule at the end.
+    /// Adds a rule at the end. Where memory is refused nothing changes.
     pub fn push_rule(&mut self, rule: Rule) -> Result<(), AllocError>
         requires room { length (rules_of self.old) < MAX_RULES }
         requires declared { IsTrue (fits (declarations self.old) rule) }

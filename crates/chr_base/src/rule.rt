@@ -17,12 +17,19 @@ use arrayvec::{ArrayString, ArrayVec};
 /// name is a name of the grammar: a lower-case letter, then letters, digits and underscores, and no reserved word.
 #[derive(Debug, PartialEq, Eq, Drop)]
 pub struct Rule {
+    /// Its name, where it has one.
     pub name: Option<ArrayString<MAX_NAME>>,
+    /// The heads that stay.
     pub kept: ArrayVec<Pattern, MAX_HEADS>,
+    /// The heads that leave, at least one.
     pub removed: ArrayVec<Pattern, MAX_HEADS>,
+    /// The comparisons that have to hold, joined by 'and'.
     pub guard: ArrayVec<Comparison, MAX_COMPARISONS>,
+    /// What comes in for the removed heads.
     pub body: ArrayVec<Pattern, MAX_BODY>,
+    /// It has removed heads, and variables numbered by first occurrence in the heads.
     pub ghost well_formed: { IsTrue (is_rule kept.items removed.items guard.items body.items) },
+    /// The name is one, the lists keep to their limits, and the constants are values.
     pub ghost bounded: { IsTrue (is_in_bounds
         (option_map (λ n. n.bytes) name) (kept.items ++ removed.items) guard.items body.items) },
 }
@@ -152,7 +159,7 @@ impl Rule {
         self.fires_by(heads, &mut Values::new())
     }
 
-    /// The same. Where there is such an instance, the values become those of its variables.
+    /// Like [`Rule::fires`], and where there is such an instance, `values` become the values of its variables.
     pub fn fires_by(&self, heads: &[Atom], values: &mut Values) -> bool
         ensures fires { IsTrue result ↔ HasInstance self.now heads.now }
         ensures values { OnTrue result (heads_at (valued values.new.items) self.now ≡ heads.now) }

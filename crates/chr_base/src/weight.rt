@@ -35,7 +35,7 @@ impl Weight {
         self.first < other.first || (self.first == other.first && self.second < other.second)
     }
 
-    /// Both weights together, number by number.
+    /// The sum of both weights, number by number.
     pub fn plus(self, other: Weight) -> Weight
         requires first { self.first + other.first < 2 ^ 64 }
         requires second { self.second + other.second < 2 ^ 64 }
@@ -47,14 +47,14 @@ impl Weight {
         }
     }
 
-    /// Whether its text needs both numbers, since the second is not 0.
+    /// Whether the second number is not 0, so that the weight's text needs both.
     pub fn is_paired(self) -> bool
         ensures { result ≡ is_paired self }
     {
         self.second != 0
     }
 
-    /// Adds its text: both numbers with a comma between them where `paired`, else the first alone.
+    /// Adds the weight's text: both numbers with a comma between them where `paired`, else the first alone.
     pub fn push_text(self, out: &mut String, paired: bool) -> Result<(), AllocError>
         ensures { OnOk result (string_bytes out.new ≡ string_bytes out.old ++ weight_text paired self) }
     {

@@ -40,7 +40,7 @@ drawing v n = hand v.limit v.shares (if nat_lt n v.limit then v.over else v.over
 abbrev pub Draws : Step ℕ → Me ℕ Hand → ℕ → Me ℕ Hand → Type 0
 Draws step before found after = after ≡ (drawing before.0 found, before.1)
 
--- what the rule says of one hand, where the word is `word`
+-- what the rule says of one hand, by the word's number
 pub record IsFair (size : Size) (word : ℕ) (v : Hand) : Type 0 where
   pub limit : 0 < v.shares → v.limit ≡ size.parts
   pub over : v.over ≤ v.shares

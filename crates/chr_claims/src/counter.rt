@@ -86,8 +86,8 @@ impl Claims {
         ))
     }
 
-    /// Claims the next number, or None where all below `parts` are claimed. It is one atomic step, and waits for
-    /// nothing. A seat that was told None takes no further step.
+    /// Claims the next number. None where all numbers below `parts` are claimed: the seat then takes no further step. A
+    /// claim is one atomic step, and waits for nothing.
     pub fn next(&self, seat: &mut ClaimSeat) -> Option<u32>
         requires { IsOf self.now seat.old }
         ensures same { IsOf self.now seat.new }

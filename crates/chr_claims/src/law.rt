@@ -9,12 +9,15 @@ pub struct Size {
     pub seats: u32,
 }
 
-/// What a seat knows: the number of parts, how many seats it stands for, how often it ran past the parts, and the
-/// numbers that it drew. No value of it is made: it exists in proofs alone.
+/// What a seat knows. No value of it is made: it exists in proofs alone.
 pub struct Hand {
+    /// The number of parts.
     pub limit: u32,
+    /// How many seats it stands for.
     pub shares: u32,
+    /// How often it ran past the parts.
     pub over: u32,
+    /// The numbers that it drew.
     pub drawn: LinkedList<u64>,
 }
 

@@ -120,7 +120,7 @@ module _ (r : Rule) (g : Grid) (p : ℕ) (heads : List Atom) (seats ss : List Se
       differ q k i j l (inr a) (inl b) e = absurd (let x = a.0 in let y = b.0 in omega (arith, l, x, y))
       differ q k i j l (inr a) (inr b) e = absurd (let x = a.1 in let y = b.1 in omega (arith, l, x, y, e))
 
--- the last of them too
+-- all but the first n of some atoms sit in all but the first n of their rows
 pub sit_drop : (g : Grid) (xs : List Atom) (ss : List Seat) (n : ℕ) → SitIn g xs ss → SitIn g (drop n xs) (drop n ss)
 sit_drop g xs ss n sit =
     let a = length-drop n xs in
@@ -239,7 +239,7 @@ part_left rules ts us xs ss e sit rest =
     (λ q. (let a = ap (λ g. count (contents g) q) e in let b = ap (λ x. count x q) w.1 in let d =
     count_minus (contents (grid ts)) (store_of xs) q in omega (arith, a, b, d))) rest
 
--- with what is fresh beside it
+-- a step of the atoms at rest and the active one is a step with more fresh atoms beside them
 pub fire_beside : (rules : List Rule) (s left fresh out more : Store) (a : Atom) → Step rules (s ⊕ one a) (left ⊕ out)
     → more ≡ fresh ⊕ out → Step rules ((s ⊕ fresh) ⊕ one a) (left ⊕ more)
 fire_beside rules s left fresh out more a step e =

@@ -47,7 +47,7 @@ sit_to r p seats place g heads is =
 remove_past : (xs : List Seat) (p : ℕ) → length xs ≤ p → remove xs p ≡ xs
 remove_past xs p l = (λ i. take_all p xs l i ++ drop_all (suc p) xs (omega (arith, l)) i) ∙ append-nil xs
 
--- the kept ones without the active one are no more than all of them
+-- there are no more kept heads without the active one than kept heads
 kept_most : (r : Rule) (p q : ℕ) → length r.kept.items ≤ q → kept_others r p ≤ q
 kept_most r p q l = elim (cases_lt p (length r.kept.items)) as (λ _. kept_others r p ≤ q) [
   | inl less ↦ (let t : nat_lt p (length r.kept.items) ≡ true = grind (arith, nat_tests) in rw t (omega (arith, l)))

@@ -30,11 +30,11 @@ store_live [] = of_list-none atom_cmp
 store_live (t ∷ ts) = store_of-append (live_atoms t.rows) (live_in ts) ∙ ap (λ s. store_of (live_atoms t.rows) ⊕ s)
     (store_live ts)
 
--- the store of both
+-- the list of the atoms in the tables and of the fresh ones is the store of all
 pub store_all : (ts : List Contents) (fresh : List Atom) → store_of (live_in ts ++ fresh) ≡ all_of ts fresh
 store_all ts fresh = store_of-append (live_in ts) fresh ∙ ap (λ s. s ⊕ store_of fresh) (store_live ts)
 
--- and of what stood before them
+-- where the list of all atoms is put behind others, their store joins the store of those
 pub pushed_all : {A E : Type 0} (r : Result A E) (ts : List Contents) (fresh xs ys : List Atom) (now : Store)
     → all_of ts fresh ≡ now → OnOk r (ys ≡ xs ++ live_in ts ++ fresh) → OnOk r (store_of ys ≡ store_of xs ⊕ now)
 pushed_all (Ok x) ts fresh xs ys now is e =

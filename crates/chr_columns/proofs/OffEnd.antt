@@ -10,7 +10,7 @@ use Rattle.chr_base.specs.Stores.{Store, store_of, count}
 use Rattle.chr_base.proofs.Atoms.{same_is}
 use Rattle.chr_base.proofs.Stores.{same_store, count_plus, count_minus, store_of-append}
 
--- one more atom is the same
+-- where the next atom of the end is the next of the other list, one more atom is the same
 pub one_more : (xs ys : List Atom) (start i : ℕ) (x y : Atom) → start + length ys ≡ length xs → i < length ys
     → x ≡ get_or xs (start + i) x → y ≡ get_or ys i y → eq_by_cmp atom_cmp x y ≡ true
     → take (start + i) xs ≡ take start xs ++ take i ys → take (start + (i + 1)) xs ≡ take start xs ++ take (i + 1) ys

@@ -26,13 +26,13 @@ use Rattle.chr_columns.proofs.Turns.{live_below, NoneAt}
 abbrev pub Pass : Option Known → List (Option Atom) → ℕ → ℕ → Type 0
 Pass known rows from to = (n : ℕ) (a : Atom) → from ≤ n → n < to → get_or rows n None ≡ Some a → Misses known a
 
--- the rows of the first table
+-- what rows of the first table pass, the same rows of all tables pass
 pub pass_here : (known : Option Known) (xs ys : List (Option Atom)) (from to : ℕ) → to ≤ length xs
     → Pass known xs from to → Pass known (xs ++ ys) from to
 pass_here known xs ys from to l pass n a m k live = pass n a m k
     (sym (get_or_append_left xs ys None n (omega (arith, k, l))) ∙ live)
 
--- those of the others
+-- what rows of the later tables pass, the same rows of all tables pass
 pub pass_there : (known : Option Known) (xs ys : List (Option Atom)) (from to : ℕ) → length xs ≤ from
     → Pass known ys (from - length xs) to → Pass known (xs ++ ys) from (length xs + to)
 pass_there known xs ys from to l pass n a m k live =

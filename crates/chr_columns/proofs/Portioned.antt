@@ -37,7 +37,7 @@ whole (x ∷ xs) = ap (λ ys. x ∷ ys) (whole xs)
 pub place_within : (cuts : List ℤ) (a : Atom) → place_at cuts a ≤ length cuts
 place_within cuts a = prefix_len-le-length (λ c. not (int_lt (first_argument a) c)) cuts
 
--- the atoms of the first portions, so many
+-- the atoms of the first `count` portions
 abbrev pub first_portions : List ℤ → ℕ → List Atom → List Atom
 first_portions cuts count xs = filter (λ a. nat_lt (place_at cuts a) count) xs
 

@@ -52,7 +52,7 @@ rises_more ds xs last a h after = record {
   last_is = sym (last_more xs a);
 }
 
--- what is left to write where all atoms are
+-- what was written is the text of all atoms, and `true` where there was none
 pub all_written : (ds : List Declaration) (start : List ℕ) (xs : List Atom) (started : Bool) (text new : List ℕ)
     → IsWritten ds start xs started text → (started ≡ true → new ≡ text)
     → (started ≡ false → new ≡ text ++ codes "true") → new ≡ start ++ atoms_text ds xs
@@ -206,7 +206,7 @@ rises_on ds xs ys last first end h rise f e after = record {
   last_is = sym (last_of_both xs ys end e);
 }
 
--- what joins two texts
+-- the joined text of two lists in a row is that of each, with a comma and a space between
 joined_both : (ds : List Declaration) (x y : Atom) (xs ys : List Atom) → joined_text ds ((x ∷ xs) ++ y ∷ ys)
     ≡ joined_text ds (x ∷ xs) ++ codes ", " ++ joined_text ds (y ∷ ys)
 joined_both ds x y xs ys =
@@ -214,7 +214,7 @@ joined_both ds x y xs ys =
     ∙ ap (λ t. atoms_text ds (x ∷ xs) ++ t) (append_assoc (codes ", ") (atom_text ds y) _)
     ∙ sym (append_assoc (atoms_text ds (x ∷ xs)) (codes ", ") (atoms_text ds (y ∷ ys)))
 
--- a text that is written behind others
+-- what is written stays so when no atom comes behind
 pub written_none : (ds : List Declaration) (start text : List ℕ) (xs ys : List Atom) (started : Bool) → ys ≡ []
     → IsWritten ds start xs started text → IsWritten ds start (xs ++ ys) started text
 written_none ds start text xs ys started none h =
@@ -245,14 +245,14 @@ written_more ds start text new (x ∷ xs) (y ∷ ys) more h e = record {
   none = λ no. absurd (true≢false no);
 }
 
--- one turn more
+-- where each turn fits and one more does, all of them fit
 pub fit_more : (ds : List Declaration) (turns : List Turn) (t : Turn) → Fits ds t.source → Fit ds turns
     → Fit ds (turns ++ t ∷ [])
 fit_more ds turns t one all =
     let P : Turn → Type 0 = λ u. Fits ds u.source in
     All-append P turns (t ∷ []) all (All-cons P t [] one (All-nil P))
 
--- one more of those that are written out
+-- where one more list of atoms is written out, the lists up to it are
 pub one_written : (ds : List Declaration) (fs : List Flat) (i : ℕ) (g : Flat) → i < length fs
     → All (IsWrittenOut ds) (take i fs) → IsWrittenOut ds g → All (IsWrittenOut ds) (take (i + 1) (set fs i g))
 one_written ds fs i g l before one =

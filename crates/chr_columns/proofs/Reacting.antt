@@ -102,7 +102,7 @@ group_at groups xs a t g e f l h =
     ap (λ ys. slice_get ys (table_of_atom groups a)) (sym e) ∙ ap (slice_get xs) (sym f)
     ∙ slice_get_read xs (length xs) t g refl l h
 
--- a plan that reacts is one of them
+-- a plan that reacts has a number of one of the plans
 pub is_one : (rules : List Rule) (rows : Tables) (a : Atom) (ps : List Plan) (j : ℕ) (heads : List Atom)
     (seats : List Seat) (values : List ℤ) → Reacts rules rows a (slice_get ps j) heads seats values → j < length ps
 is_one rules rows a ps j heads seats values h = elim (slice_get_cases ps j).1 as (λ _. j < length ps) [

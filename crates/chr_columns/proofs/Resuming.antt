@@ -19,7 +19,7 @@ use Rattle.chr_columns.specs.working.Groups.{table_of_atom}
 use Rattle.chr_columns.specs.working.Resting.{grid, MayGoOn, Stands}
 use Rattle.chr_columns.proofs.Stored.{row_is, rows_stay}
 
--- the last atom of a list is one
+-- a list has one last atom
 last_same : (xs ys : List Atom) (a b : Atom) → xs ++ a ∷ [] ≡ ys ++ b ∷ [] → a ≡ b
 last_same xs ys a b e =
     let n = ap length e in
@@ -69,7 +69,7 @@ pub goes_on : (rules : List Rule) (groups : List Group) (rows : Tables) (a : Ato
 goes_on rules groups rows a s h at may g e = subst (λ x. MayResume rules rows a x.plans.items s)
     (same_Some h g (sym at ∙ e)) may
 
--- the search for the atom that leaves the fresh ones
+-- where the search for the last fresh atom may go on, it may when this atom has left the fresh ones
 pub stood : (r : Rested) (fresh left : List Atom) (a : Atom) (standing : Option Standing) → Stands r fresh standing
     → fresh ≡ left ++ a ∷ [] → IfSome standing (MayGoOn r a)
 stood r fresh left a None h e = tt

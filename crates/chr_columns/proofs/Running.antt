@@ -17,12 +17,12 @@ use Rattle.chr_columns.specs.Stepping.{StepsOrStays}
 use Rattle.chr_columns.specs.declared.stepping.Stopped.{Stopped}
 use Rattle.chr_columns.proofs.Pools.{all_rest}
 
--- one step more
+-- a run with one step more behind it
 pub run_on : (rules : List Rule) (n : ℕ) (s t u : Store) → Runs (Step rules) n s t → Step rules t u
     → Runs (Step rules) (n + 1) s u
 run_on rules n s t u h st = Runs-append (Step rules) n 1 s t u h (u, st, refl)
 
--- the end is the same store
+-- a run ends in whatever store is the same as its end
 pub run_to : (rules : List Rule) (n : ℕ) (s t u : Store) → Runs (Step rules) n s t → u ≡ t → Runs (Step rules) n s u
 run_to rules n s t u h e = rw e h
 
@@ -32,7 +32,7 @@ pub run_under : (own rules : List Rule) (n : ℕ) (s before t : Store) → map p
     → Runs (Step own) n s t → Runs (Step rules) n before t
 run_under own rules n s before t e same h = subst (λ x. Runs (Step rules) n x t) same (same_runs own rules n s t e h)
 
--- the same of what steps came to
+-- a run under a pool's own rules, as many steps as were told, is one under rules that say the same
 module _ (own rules : List Rule) (e : map parts_of own ≡ map parts_of rules) where
   pub ok_under : {E : Type 0} (o : Result ℕ E) (s before t : Store) → s ≡ before → IfOk o (λ n. Runs (Step own) n s t)
       → IfOk o (λ n. Runs (Step rules) n before t)

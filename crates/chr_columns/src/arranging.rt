@@ -13,15 +13,16 @@ use chr_plans::key::Order;
 use chr_plans::plan::Plan;
 use std::alloc::{AllocError, Global};
 
-/// By what atoms are put in order: the arguments by which rules join them, and the column by whose values, and those of
-/// another, rows are left behind. A row that is left behind takes many with it where rows come in the order of one.
+/// By what atoms are put in order, so that partners are soon found: first by the value by which rules join them, and
+/// then by that of a column by which look-ups leave out rows. Where rows come in such an order, a look-up leaves out
+/// many at once.
 #[derive(Drop)]
 struct Arrangement {
     joint: Option<Joint>,
     crossed: Option<usize>,
 }
 
-/// The first column of a plan by which rows are left behind in two columns.
+/// The first of the two columns by which a plan leaves out rows, where it does so by two columns.
 fn crossed_in(plan: &Plan) -> Option<usize> {
     for lookup in plan.lookups.as_slice() {
         if let Order::ByBoth(first, _) = lookup.partner.order {
@@ -31,12 +32,12 @@ fn crossed_in(plan: &Plan) -> Option<usize> {
     None
 }
 
-/// The same of the first plan that has one.
+/// The first column, of the first of these plans that has one, by which rows are left out in two columns.
 fn crossed_of(plans: &[Plan]) -> Option<usize> {
     plans.iter().find_map(crossed_in)
 }
 
-/// The same of the plans of all head places.
+/// The first column by which any plan leaves out rows in two columns.
 pub(crate) fn crossed(groups: &[Group]) -> Option<usize> {
     groups.iter().find_map(|group| crossed_of(&group.plans))
 }
@@ -46,7 +47,7 @@ fn argument(atom: &Atom, column: usize) -> i64 {
 }
 
 impl Arrangement {
-    /// The one of these rows.
+    /// The arrangement for the rules and plans of these rows.
     fn of(rested: &Rested) -> Arrangement {
         Arrangement {
             joint: joint_of(&rested.rules),
@@ -54,13 +55,13 @@ impl Arrangement {
         }
     }
 
-    /// Whether it says nothing.
+    /// Whether any order does, since nothing is to be put in order.
     fn is_any(&self) -> bool {
         self.joint.is_none() && self.crossed.is_none()
     }
 
-    /// By what an atom is put in order: the value by which rules join it, and that by which rows are left behind; 0 for
-    /// one that there is not.
+    /// By what an atom is put in order: the value by which rules join it, and its argument in the column `crossed`. A
+    /// value that there isn't counts as 0.
     fn key(&self, atom: &Atom) -> (i64, i64) {
         let joint = match &self.joint {
             Some(joint) => joint.value(atom),
@@ -73,7 +74,7 @@ impl Arrangement {
         (joint, crossed)
     }
 
-    /// Whether the atoms are in that order.
+    /// Whether the atoms are in the order of their keys.
     fn is_kept_by(&self, atoms: &[Atom]) -> bool {
         for i in 1..atoms.len() {
             if self.key(&atoms[i - 1]) > self.key(&atoms[i]) {
@@ -84,8 +85,8 @@ impl Arrangement {
     }
 }
 
-/// Puts atoms in the order in which the plans of these rows find partners best. Where there is none nothing changes. It
-/// takes no memory.
+/// Puts atoms in the order in which the plans of these rows find partners best. Where any order does nothing changes.
+/// It takes no memory.
 pub(crate) fn arrange(rested: &Rested, atoms: &mut Vec<Atom>)
     ensures { store_of atoms.new.items ≡ store_of atoms.old.items }
 {
@@ -96,7 +97,7 @@ pub(crate) fn arrange(rested: &Rested, atoms: &mut Vec<Atom>)
     let _ = atoms.sort_by_cached_key(|atom| arrangement.key(atom));
 }
 
-/// All atoms, in that order; by tables, where there is none.
+/// All atoms, at rest and fresh, in the order of [`arrange`]; table by table where any order does.
 pub(crate) fn arranged(
     alloc: Global,
     rested: &Rested,

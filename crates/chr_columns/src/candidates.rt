@@ -28,8 +28,8 @@ pub(crate) fn known_argument(pattern: &Pattern) -> Option<Known>
     None
 }
 
-/// A row from `from` on, or the end of all rows; none whose atom has this argument was passed over. A table is
-/// searched in its column, and fresh atoms are not passed over.
+/// The first row from `from` on that may have the known argument, or the number of rows. Tables are searched in its
+/// column. A fresh atom may always have it.
 fn first_with(tables: &[Table], fresh: &[Atom], known: Known, from: usize) -> usize
     requires column { IsWithinAtom (Some known) }
     requires few { length (rows_in_turn tables.now fresh.now) < 2 ^ 64 }
@@ -52,7 +52,7 @@ fn first_with(tables: &[Table], fresh: &[Atom], known: Known, from: usize) -> us
     }
 }
 
-/// The same of an argument that may be known; where none is known no row is passed over.
+/// Like [`first_with`], but where no argument is known the row is `from`.
 pub(crate) fn next_candidate(
     tables: &[Table],
     fresh: &[Atom],

@@ -28,15 +28,19 @@ use std::marker::Model;
 mod parts;
 mod texts;
 
-/// A store that rests in near linear time. Some atoms are at rest under the pool's rules, and sit in rows; the others
-/// are fresh. Contracts see the multiset of both.
+/// A pool: a store that rests in near linear time. Some atoms are at rest under the pool's rules, and sit in rows; the
+/// others are fresh. Contracts see the multiset of both.
 ///
-/// Where a step keeps the newest fresh atom, the pool knows where the search for its partners stands. The next step
-/// goes on there, so that all steps with one atom cost one walk over its partners. Each other change forgets it.
+/// Where a step keeps the newest fresh atom, the next step goes on where the search for its partners stands. So all
+/// steps with one atom cost one walk over its partners. Each other change forgets where it stands.
 pub struct Columns {
+    // The pool's rules, and the atoms at rest under them.
     rested: Rested,
+    // The fresh atoms, the newest last.
     fresh: Vec<Atom>,
+    // Where the search for partners of the last fresh atom may go on.
     standing: Option<Standing>,
+    // Room for what a search finds, kept from one search to the next.
     found: Found,
 }
 
@@ -68,16 +72,16 @@ impl Model for Columns {
 }
 
 impl Columns {
-    /// The empty one. It has copies of these rules: steps by them are what it is made for. Its keys are hashed under
-    /// `FIXED_SEED`.
+    /// The empty pool of these rules, of which it has copies: steps by them are what it is made for. Its keys are
+    /// hashed under `FIXED_SEED`.
     pub fn new(alloc: Global, rules: &[Rule]) -> Result<Columns, AllocError>
         ensures { IfOk result (λ c. c ≡ bag.empty) }
     {
         Columns::seeded(alloc, FIXED_SEED, rules)
     }
 
-    /// The same, whose keys are hashed under this seed. No answer depends on it: who doesn't know it can't choose atoms
-    /// whose keys meet in one place.
+    /// Like [`Columns::new`], but keys are hashed under this seed, on which no answer depends. Who doesn't know the
+    /// seed can't choose atoms whose keys have one hash.
     pub fn seeded(alloc: Global, seed: u64, rules: &[Rule]) -> Result<Columns, AllocError>
         ensures { IfOk result (λ c. c ≡ bag.empty) }
     {
@@ -104,21 +108,21 @@ impl Columns {
         push_copies(&mut self.fresh, atoms)
     }
 
-    /// Whether all of these atoms are there, as a multiset. It takes no memory.
+    /// Whether all of these atoms are in the pool, as a multiset. It takes no memory.
     pub fn has(&self, atoms: &[Atom]) -> bool
         ensures { IsTrue result ↔ IsWithin (store_of atoms.now) self.now }
     {
         self.rested.has_all(&self.fresh, atoms)
     }
 
-    /// Whether so many such atoms are there. It takes no memory.
+    /// Whether at least `wanted` such atoms are in the pool. It takes no memory.
     pub fn has_as_often(&self, atom: &Atom, wanted: usize) -> bool
         ensures { IsTrue result ↔ wanted ≤ count self.now atom.now }
     {
         self.rested.has_as_often(&self.fresh, atom, wanted)
     }
 
-    /// Takes all of these atoms out, or none where as a multiset they are not there. It takes no memory.
+    /// Takes all of these atoms out, or none where as a multiset they are not all there. It takes no memory.
     pub fn remove(&mut self, atoms: &[Atom]) -> bool
         ensures there { IsTrue result ↔ IsWithin (store_of atoms.now) self.old }
         ensures taken { OnTrue result (self.new ≡ self.old ⊖ store_of atoms.now) }
@@ -143,8 +147,8 @@ impl Columns {
         push_stored(atoms, &self.rested.tables.tables, &self.fresh)
     }
 
-    /// An instance of the rule that is there: its heads in place order, and the different rows of this pool in which
-    /// they sit. None only where there is none. It takes no memory.
+    /// An instance of the rule among the pool's atoms: its heads in place order, and the different rows in which they
+    /// sit. None only where there is no instance. It takes no memory.
     pub fn find(&self, rule: &Rule) -> Option<Rows>
         ensures instance { IfSome result (λ found. HasInstance rule.now found.heads.items) }
         ensures there { IfSome result (λ found. IsWithin (store_of found.heads.items) self.now) }
@@ -169,9 +173,9 @@ impl Columns {
         Ok(())
     }
 
-    /// Takes out the atoms of the removed heads of an instance that is there, by their rows. They are different rows
-    /// under which the rule fires, as `find` gives them; where a change of the pool has put another atom into one of
-    /// them, or none, the head's atom is looked up. It takes no memory.
+    /// Takes out the atoms of the removed heads of an instance that is there, by their rows. These are different rows
+    /// under which the rule fires, as `find` gives them. Where a change of the pool has emptied one of them or put
+    /// another atom there, the head's atom is looked up. It takes no memory.
     pub fn take_rows(&mut self, rule: &Rule, rows: &Rows)
         requires instance { HasInstance rule.now rows.now.heads.items }
         requires there { IsWithin (store_of rows.now.heads.items) self.old }
@@ -184,8 +188,8 @@ impl Columns {
             .take_all(&mut self.fresh, removed, &rows.rows, kept);
     }
 
-    /// One step by the instance in these rows, of which `take_rows` says what they are. Where memory is refused nothing
-    /// changes.
+    /// One step by the instance in these rows, which are as [`Columns::take_rows`] wants them. Where memory is refused
+    /// nothing changes.
     pub fn fire_rows(&mut self, rule: &Rule, rows: &Rows) -> Result<(), AllocError>
         requires instance { HasInstance rule.now rows.now.heads.items }
         requires there { IsWithin (store_of rows.now.heads.items) self.old }
@@ -198,10 +202,10 @@ impl Columns {
         Ok(())
     }
 
-    /// Steps of these rules: so many, or fewer where the store is at rest then, or where memory is refused, after which
-    /// the steps taken so far stand. Those by the pool's own rules take near constant time each; under other rules it
-    /// makes copies of these, and all atoms become fresh. The rules are compared once. Where they are the pool's own
-    /// and no atom is fresh, no step is looked for, nor memory asked for.
+    /// Takes `most` steps of these rules, or fewer where the store is at rest then, and tells how many. Where memory is
+    /// refused the steps taken so far stand. Steps by the pool's own rules take near constant time each. Under other
+    /// rules the pool first makes copies of these, and all atoms become fresh. The rules are compared once. Where they
+    /// are the pool's own and no atom is fresh, no step is looked for and no memory is asked for.
     pub fn advance(&mut self, rules: &[Rule], most: u64) -> Result<u64, Stopped>
         ensures ok { IfOk result (λ n. Runs (Step rules.now) n self.old self.new) }
         ensures most { IfOk result (λ n. n ≤ most) }
@@ -219,8 +223,8 @@ impl Columns {
         )
     }
 
-    /// One step of some rule. False, and nothing changes, where the store is at rest; where memory is refused nothing
-    /// changes either. It compares all rules, which `advance` does but once for many steps.
+    /// Takes one step of some rule. False, and nothing changes, where the store is at rest; where memory is refused
+    /// nothing changes either. Each call compares all rules; [`Columns::advance`] compares them once for many steps.
     pub fn step(&mut self, rules: &[Rule]) -> Result<bool, AllocError>
         ensures step { IfOk result (StepsOrStays rules.now self.old self.new) }
         ensures err { OnErr result (self.new ≡ self.old) }

@@ -9,13 +9,18 @@ use chr_plans::key::Span;
 use chr_plans::rows::Rows;
 use chr_tables::table::Table;
 
-/// The rows of tables and one for each fresh atom, numbered in this order. The row of the active atom is passed over.
+/// All atoms of a pool as one table, without the active atom.
 #[derive(Drop)]
 pub(crate) struct Everywhere<'a> {
+    /// The tables, whose rows come first, one table after another.
     pub(crate) tables: &'a [Table],
+    /// The fresh atoms, whose rows come next, one for each.
     pub(crate) fresh: &'a [Atom],
+    /// The number of all rows.
     pub(crate) rows: usize,
+    /// The row of the active atom, which is passed over.
     pub(crate) active: usize,
+    /// `rows` is the number of all rows.
     ghost counted: { rows ≡ length (rows_in_turn tables.now fresh.now) },
 }
 

@@ -9,16 +9,19 @@ ghost use Rattle.chr_columns.specs.working.Printing.{flat_atoms, flat_rows, has_
 use chr_base::atom::{Atom, SymbolId};
 use std::alloc::{AllocError, Global};
 
-/// Atoms that have more arguments are not kept in rows of their own.
+/// The most arguments of atoms that get rows of their own.
 pub(crate) const FLAT_ARITY: usize = 3;
 
-/// Atoms of one symbol and number of arguments. Each has a row: its arguments, and noughts behind them. Their text is
-/// empty until it is written.
+/// Atoms of one symbol and number of arguments, which are written one after another.
 #[derive(Drop)]
 pub(crate) struct Flat {
+    /// The symbol of all atoms.
     pub(crate) symbol: SymbolId,
+    /// The number of arguments of all atoms.
     pub(crate) arity: usize,
+    /// The arguments of each atom, and noughts behind them.
     pub(crate) rows: Vec<[i64; FLAT_ARITY]>,
+    /// The text of all atoms, empty until it is written.
     pub(crate) text: String,
 }
 
@@ -35,7 +38,7 @@ fn row_of(values: &[i64]) -> [i64; FLAT_ARITY]
 }
 
 impl Flat {
-    /// None yet, of this symbol and number of arguments.
+    /// No atoms yet, of this symbol and number of arguments.
     pub(crate) fn new(alloc: Global, symbol: SymbolId, arity: usize) -> Flat
         ensures none { flat_atoms result ≡ [] }
         ensures symbol { result.symbol ≡ symbol }
@@ -49,14 +52,14 @@ impl Flat {
         }
     }
 
-    /// Whether the atom is of its symbol and number of arguments.
+    /// Whether the atom has the symbol and the number of arguments of these atoms.
     pub(crate) fn is_for(&self, atom: &Atom) -> bool
         ensures { result ≡ has_shape self.now atom.now }
     {
         self.symbol.0 == atom.symbol.0 && self.arity == atom.args.len()
     }
 
-    /// One more, the last. Where memory is refused nothing changes.
+    /// Adds an atom, the last. Where memory is refused nothing changes.
     pub(crate) fn push(&mut self, atom: &Atom) -> Result<(), AllocError>
         requires shape { IsTrue (has_shape self.old atom.now) }
         requires few { length atom.now.args.items ≤ FLAT_ARITY }
@@ -66,7 +69,7 @@ impl Flat {
         Ok(())
     }
 
-    /// The given atom becomes that of a row. A row past the last has none.
+    /// `atom` becomes that of a row. False where there is no such row.
     #[inline(always)]
     pub(crate) fn read(&self, row: usize, atom: &mut Atom) -> bool
         ensures there { OnTrue result (get_or (flat_rows self.now) row None ≡ Some atom.new) }

@@ -16,7 +16,7 @@ use chr_base::atom::Atom;
 use chr_tables::table::Table;
 use std::alloc::{AllocError, Global};
 
-/// Which of these are for the atom.
+/// The place of the atoms of the atom's symbol and number of arguments, where there are some.
 fn place_for(flats: &[Flat], atom: &Atom) -> Option<usize>
     ensures within { IfSome result (λ place. place < length flats.now) }
     ensures shape { IfSome result (λ place. (f : FlatValue) → get_or flats.now place f ≡ f →

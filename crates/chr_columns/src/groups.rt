@@ -66,7 +66,7 @@ fn start_for(starts: &[usize], symbol: SymbolId) -> usize
     }
 }
 
-/// What `table_of` tells, sooner where there are many groups.
+/// Like [`table_of`], but quick where there are many groups.
 fn table_from(starts: &[usize], groups: &[Group], symbol: SymbolId, arity: usize) -> usize
     requires { AreStarts starts.now groups.now }
     ensures { result ≡ table_of groups.now symbol arity }

@@ -20,14 +20,14 @@ pub struct Joint {
     pub columns: ArrayVec<usize, MAX_SYMBOLS>,
 }
 
-/// The column of a symbol.
+/// The column of a symbol, the first one where the symbol is past the last.
 fn column_in(columns: &[usize], symbol: SymbolId) -> usize
     ensures { result ≡ column_in columns.now symbol }
 {
     columns.get(symbol.0 as usize).copied().unwrap_or(0)
 }
 
-/// Whether the variable stands in that column of the pattern.
+/// Whether the variable stands in the joining column of the pattern's symbol.
 fn has_there(columns: &[usize], variable: u8, pattern: &Pattern) -> bool
     ensures { OnTrue result (HasThere columns.now variable pattern.now) }
 {
@@ -37,7 +37,7 @@ fn has_there(columns: &[usize], variable: u8, pattern: &Pattern) -> bool
     }
 }
 
-/// Whether the variable stands there in all of these patterns.
+/// Whether the variable stands in the joining column of each of these patterns.
 fn all_have(columns: &[usize], variable: u8, patterns: &[Pattern]) -> bool
     ensures { OnTrue result (All (HasThere columns.now variable) patterns.now) }
 {
@@ -50,7 +50,7 @@ fn all_have(columns: &[usize], variable: u8, patterns: &[Pattern]) -> bool
     all_have(columns, variable, patterns)
 }
 
-/// Whether it stands there in all heads of the rule.
+/// Whether the variable stands in the joining column of each head of the rule.
 fn heads_have(columns: &[usize], variable: u8, rule: &Rule) -> bool
     ensures { OnTrue result (All (HasThere columns.now variable) (heads_of rule.now)) }
 {
@@ -60,7 +60,7 @@ fn heads_have(columns: &[usize], variable: u8, rule: &Rule) -> bool
     all_have(columns, variable, &rule.removed)
 }
 
-/// The variable that stands there in the first head.
+/// The variable that stands in the joining column of the first head.
 fn first_variable(columns: &[usize], rule: &Rule) -> Option<u8> {
     let head = rule.head_at(0);
     match head.args.get(column_in(columns, head.symbol)) {
@@ -69,7 +69,7 @@ fn first_variable(columns: &[usize], rule: &Rule) -> Option<u8> {
     }
 }
 
-/// Whether some variable stands there in all heads of each of the rules.
+/// Whether in each of the rules some variable stands in the joining column of every head.
 fn are_joined(columns: &[usize], rules: &[Rule]) -> bool {
     rules.iter().all(|rule| match first_variable(columns, rule) {
         Some(variable) => heads_have(columns, variable, rule),
@@ -77,7 +77,7 @@ fn are_joined(columns: &[usize], rules: &[Rule]) -> bool {
     })
 }
 
-/// Whether some variable stands there in all heads, and in all atoms of the body.
+/// Whether some variable stands in the joining column of each head, and of each atom of the body.
 fn is_local(columns: &[usize], rule: &Rule) -> bool
     ensures { OnTrue result (IsLocal columns.now rule.now) }
 {
@@ -90,7 +90,7 @@ fn is_local(columns: &[usize], rule: &Rule) -> bool
     all_have(columns, variable, &rule.body)
 }
 
-/// Whether it is so for each of the rules.
+/// Whether each of the rules is local.
 fn are_local(columns: &[usize], rules: &[Rule]) -> bool
     ensures { OnTrue result (All (IsLocal columns.now) rules.now) }
 {
@@ -147,7 +147,8 @@ fn is_variable(term: Option<&Term>, variable: u8) -> bool {
     }
 }
 
-/// Chooses a column with the variable for a pattern that has none. Whether the variable stands in its column then.
+/// Chooses a column with the variable for a pattern whose symbol has none. Tells whether the variable stands in the
+/// symbol's column then.
 fn choose_for(choice: &mut Choice, pattern: &Pattern, variable: u8) -> bool {
     if let Some(column) = chosen(choice, pattern.symbol) {
         return is_variable(pattern.args.get(column), variable);
@@ -159,8 +160,8 @@ fn choose_for(choice: &mut Choice, pattern: &Pattern, variable: u8) -> bool {
     true
 }
 
-/// Chooses a column with the variable for each head and each atom of the body that has none. Whether all heads have one
-/// then.
+/// Chooses a column with the variable for each head, and each atom of the body, whose symbol has none. Tells whether
+/// the variable stands in the columns of all heads then.
 fn choose_all(choice: &mut Choice, rule: &Rule, variable: u8) -> bool {
     for place in 0..rule.places() {
         if !choose_for(choice, rule.head_at(place), variable) {
@@ -173,7 +174,8 @@ fn choose_all(choice: &mut Choice, rule: &Rule, variable: u8) -> bool {
     true
 }
 
-/// What is chosen for one head of a rule settles the others. Whether that can be.
+/// Where a column is chosen for one head of a rule, chooses columns for its other heads. Tells whether one variable can
+/// stand in all of them.
 fn spread(choice: &mut Choice, rules: &[Rule]) -> bool {
     for rule in rules {
         match first_term(choice, rule) {
@@ -189,7 +191,7 @@ fn spread(choice: &mut Choice, rules: &[Rule]) -> bool {
     true
 }
 
-/// The same for all rules that hang together, however long the way from one to the other.
+/// Like [`spread`], but goes on through all rules that share symbols, however long the way from one to the other.
 fn spread_far(choice: &mut Choice, rules: &[Rule]) -> bool {
     for _ in rules {
         if !spread(choice, rules) {
@@ -199,7 +201,7 @@ fn spread_far(choice: &mut Choice, rules: &[Rule]) -> bool {
     true
 }
 
-/// The choice with the first column for the rule's first head that suits all rules that hang together with it.
+/// The choice with the first column of the rule's first head that suits all rules that share symbols with it.
 fn chosen_with(choice: Choice, rules: &[Rule], rule: &Rule) -> Option<Choice> {
     let head = rule.head_at(0);
     for column in 0..head.args.len() {
@@ -223,7 +225,7 @@ fn choice_for(rules: &[Rule]) -> Option<Choice> {
     Some(choice)
 }
 
-/// The columns of a choice, the first one where none was chosen.
+/// The columns of a choice, the first column where none was chosen.
 fn columns_of(choice: &Choice) -> ArrayVec<usize, MAX_SYMBOLS> {
     let mut columns = ArrayVec::new();
     for number in 0..MAX_SYMBOLS {
@@ -232,7 +234,7 @@ fn columns_of(choice: &Choice) -> ArrayVec<usize, MAX_SYMBOLS> {
     columns
 }
 
-/// The columns by which all of these rules are joined, where they are found; none for no rules.
+/// The columns by which all of these rules are joined, where they are found. None where there are no rules.
 pub fn joint_of(rules: &[Rule]) -> Option<Joint> {
     if rules.is_empty() {
         return None;
@@ -246,7 +248,7 @@ pub fn joint_of(rules: &[Rule]) -> Option<Joint> {
 }
 
 impl Joint {
-    /// The value by which an atom is joined: its argument in that column, 0 where it has none there.
+    /// The value by which an atom is joined: its argument in its symbol's column, 0 where it has none there.
     pub fn value(&self, atom: &Atom) -> i64
         ensures { result ≡ value_in self.now.columns.items atom.now }
     {

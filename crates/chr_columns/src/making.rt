@@ -42,7 +42,7 @@ pub(crate) struct Keys {
     pub(crate) ways: Vec<Way>,
 }
 
-/// Whether it is by these columns in this order, and by this order of values.
+/// Whether the index is by these columns in this order, and by this order of values.
 fn is_by(way: &Way, columns: &[usize], order: Order) -> bool
     ensures by { OnTrue result (made_way way.now ≡ (columns.now, order)) }
     ensures other { OnFalse result (made_way way.now ≡ (columns.now, order) → ⊥) }
@@ -167,8 +167,8 @@ fn is_read_again(rule: &Rule, place: usize) -> bool
     false
 }
 
-/// The plan of a head place of the rule with this number joins the group of its head. Where a later head reads alike
-/// its plan serves both: what partners an atom has at the one place, it has at the other.
+/// The plan of a head place of the rule with this number joins the group of its head. Where a later head reads like it,
+/// that head's plan serves both, since an atom has the same partners at both places.
 // Not put into its caller, whose frame would hold the room that this one takes.
 #[inline(never)]
 fn add_plan(
@@ -200,8 +200,9 @@ fn add_plan(
     Ok(())
 }
 
-/// The plans of the head places of the rule with this number, the last place first. So an active atom is first asked
-/// whether a rule removes it: where it would also be kept, the rows stay as they are.
+/// Adds the plans of the head places of the rule with this number, the last place first. Removed heads stand last, so
+/// an active atom is first tried as one that is removed: where it could also be kept, it leaves, and the rows stay as
+/// they are.
 fn add_plans(
     keys: &mut Vec<Keys>,
     groups: &mut [Group],
@@ -242,7 +243,7 @@ fn add_all_plans(
     Ok(())
 }
 
-/// So many tables, for which no index is wanted yet.
+/// `count` tables, for which no index is wanted yet.
 fn no_keys(alloc: Global, count: usize) -> Result<Vec<Keys>, AllocError>
     ensures { IfOk result (λ keys. length keys.items ≡ count) }
 {
@@ -255,7 +256,7 @@ fn no_keys(alloc: Global, count: usize) -> Result<Vec<Keys>, AllocError>
     Ok(keys)
 }
 
-/// The same columns.
+/// A copy of the columns.
 fn copy_of(columns: &ArrayVec<usize, MAX_ARITY>) -> ArrayVec<usize, MAX_ARITY>
     ensures { result.items ≡ columns.now.items }
 {
@@ -303,8 +304,9 @@ fn copies_of(alloc: Global, rules: &[Rule]) -> Result<Vec<Rule>, AllocError>
     Ok(copies)
 }
 
-/// No atoms, under copies of these rules, with the plans of their head places and the indexes that these want, whose
-/// keys are hashed under the seed. It is refused where memory is, or where there would be `MAX_TABLES` tables.
+/// What is at rest where there is no atom: copies of these rules, the plans of their head places, and tables with the
+/// indexes that the plans want, whose keys are hashed under the seed. It is refused where memory is, or where there
+/// would be `MAX_TABLES` tables.
 pub(crate) fn rested_for(alloc: Global, seed: u64, rules: &[Rule]) -> Result<Rested, AllocError>
     ensures rested { IfOk result IsRested }
     ensures rules { IfOk result (λ r. r.rules.items ≡ rules.now) }

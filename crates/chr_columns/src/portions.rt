@@ -6,10 +6,10 @@ use chr_base::atom::Atom;
 use chr_tables::table::Table;
 use std::alloc::{AllocError, Global};
 
-/// So many rows are looked at for each portion, to make them about equally large.
+/// How many rows are looked at for each portion, to make the portions about equally large.
 const SAMPLES: usize = 256;
 
-/// A thread is begun for so many rows or more.
+/// The least number of rows for which one more thread is begun.
 const LEAST_ROWS: usize = 8192;
 
 /// The first argument of an atom, or 0 where it has none.
@@ -22,7 +22,8 @@ fn first_argument(atom: &Atom) -> i64
     }
 }
 
-/// The place of the portion of an atom: that of the first cut which is above its first argument, or their number.
+/// The place of the portion of an atom: that of the first cut above its first argument, or the number of cuts where
+/// none is.
 pub(crate) fn place_of(cuts: &[i64], atom: &Atom) -> usize
     ensures { result ≡ place_at cuts.now atom.now }
 {
@@ -44,7 +45,7 @@ fn rows_in(tables: &[&Table]) -> usize {
     rows
 }
 
-/// Adds first arguments of rows of a table that lie so far apart.
+/// Adds the first arguments of rows of a table, `apart` rows from each other.
 fn push_samples(samples: &mut Vec<i64>, table: &Table, apart: usize) -> Result<(), AllocError> {
     for sample in 0..table.len() / apart.max(1) {
         if let Some(atom) = table.get(sample.saturating_mul(apart)) {
@@ -54,7 +55,7 @@ fn push_samples(samples: &mut Vec<i64>, table: &Table, apart: usize) -> Result<(
     Ok(())
 }
 
-/// First arguments of rows of the tables that lie so far apart, in order.
+/// The first arguments of rows of the tables, `apart` rows from each other, in order.
 fn samples_of(alloc: Global, tables: &[&Table], apart: usize) -> Result<Vec<i64>, AllocError> {
     let mut samples = Vec::new(alloc);
     for table in tables {
@@ -64,7 +65,7 @@ fn samples_of(alloc: Global, tables: &[&Table], apart: usize) -> Result<Vec<i64>
     Ok(samples)
 }
 
-/// Cuts between portions of about as many atoms, for so many threads at most. There are none where one thread does as
+/// Cuts between portions of about as many atoms, for at most `threads` threads. There are none where one thread does as
 /// well.
 pub(crate) fn cuts_of(
     alloc: Global,

@@ -47,7 +47,7 @@ pub(crate) struct Turn<'a> {
     first: Option<Atom>,
 }
 
-/// The given atom becomes that of a row of the table, where the row lives.
+/// `atom` becomes that of a row of the table, where the row lives.
 #[inline(always)]
 pub(crate) fn read_live(table: &Table, row: usize, atom: &mut Atom) -> bool
     ensures there { OnTrue result (get_or table.now.rows row None ≡ Some atom.new) }
@@ -61,7 +61,7 @@ pub(crate) fn read_live(table: &Table, row: usize, atom: &mut Atom) -> bool
 }
 
 impl<'a> Source<'a> {
-    /// The number of its rows.
+    /// The number of rows of the source.
     fn len(&self) -> usize
         ensures { result ≡ length (turn_rows self.now) }
     {
@@ -71,7 +71,7 @@ impl<'a> Source<'a> {
         }
     }
 
-    /// The given atom becomes that of a row, where one lives there.
+    /// `atom` becomes that of a row, where one lives there.
     #[inline(always)]
     fn read(&self, row: usize, atom: &mut Atom) -> bool
         ensures there { OnTrue result (get_or (turn_rows self.now) row None ≡ Some atom.new) }
@@ -132,7 +132,8 @@ fn keep_last(last: &mut Option<Atom>, atom: &Atom)
     }
 }
 
-/// Whether the atoms are in the order in which they are printed, each of them and the last one before them.
+/// Whether the atoms are in the order in which they are printed, and none is printed before `last`, which becomes the
+/// last of them.
 pub(crate) fn follow_rows(program: &Program, last: &mut Option<Atom>, source: &Source) -> bool
     ensures { OnTrue result ((before : List AtomValue) → Rises (declarations program.now) before last.old →
         Rises (declarations program.now) (before ++ live_atoms (turn_rows source.now)) last.new) }
@@ -149,7 +150,7 @@ pub(crate) fn follow_rows(program: &Program, last: &mut Option<Atom>, source: &S
     true
 }
 
-/// The same of atoms whose text is written: of the first one alone.
+/// Like [`follow_rows`], of atoms that are written, and so in order: only the first one is compared.
 fn follow_written(program: &Program, last: &mut Option<Atom>, flat: &Flat) -> bool
     requires { IsWrittenOut (declarations program.now) flat.now }
     ensures { OnTrue result ((before : List AtomValue) → Rises (declarations program.now) before last.old →
@@ -165,7 +166,7 @@ fn follow_written(program: &Program, last: &mut Option<Atom>, flat: &Flat) -> bo
     true
 }
 
-/// The same, wherever the atoms are.
+/// Like [`follow_rows`], wherever the atoms are.
 fn follow(program: &Program, last: &mut Option<Atom>, source: &Source) -> bool
     requires { Fits (declarations program.now) source.now }
     ensures { OnTrue result ((before : List AtomValue) → Rises (declarations program.now) before last.old →
@@ -177,7 +178,7 @@ fn follow(program: &Program, last: &mut Option<Atom>, source: &Source) -> bool
     }
 }
 
-/// Whether all atoms are in that order, turn by turn.
+/// Whether the atoms of all turns, one turn after another, are in the order in which they are printed.
 fn are_in_order(program: &Program, turns: &[Turn]) -> bool
     requires { All (λ t. Fits (declarations program.now) t.source) turns.now }
     ensures { OnTrue result (IsTrue (is_rising (print_cmp (declarations program.now)) (all_atoms turns.now))) }
@@ -450,8 +451,8 @@ fn push_portions<R: Threads + Sync>(
 }
 
 /// Adds the text of the store in these tables. Where their rows are in order it is written from these; else the
-/// arguments of the atoms of each symbol are put in order, by so many threads at most. False, and nothing is added,
-/// where that can't be done: an atom has too many arguments, or the program doesn't declare some.
+/// arguments of the atoms of each symbol are put in order, by at most `threads` threads. False, and nothing is added,
+/// where that can't be done: an atom has too many arguments, or the program doesn't declare some atom.
 pub(crate) fn push_tables<R: Threads + Sync>(
     rt: &R,
     alloc: Global,

@@ -62,7 +62,7 @@ fn has_from(items: &[Atom], start: usize, atoms: &[Atom]) -> bool
     true
 }
 
-/// Takes these atoms off the end of a list, where just they stand there: as after they were put there.
+/// Takes these atoms off the end of a list, if the list ends with just them, as after they were put there.
 fn take_off_end(fresh: &mut Vec<Atom>, atoms: &[Atom]) -> bool
     ensures taken { OnTrue result (fresh.old.items ≡ fresh.new.items ++ atoms.now) }
     ensures same { OnFalse result (fresh.new ≡ fresh.old) }
@@ -124,7 +124,7 @@ impl Rested {
         true
     }
 
-    /// Whether so many such atoms are there, at rest or fresh. It takes no memory.
+    /// Whether at least `wanted` such atoms are there, at rest or fresh. It takes no memory.
     pub(crate) fn has_as_often(&self, fresh: &[Atom], atom: &Atom, wanted: usize) -> bool
         requires { IsRested self.now }
         ensures { IsTrue result ↔ wanted ≤ count (stored self.now ⊕ store_of fresh.now) atom.now }
@@ -159,8 +159,8 @@ impl Rested {
         }
     }
 
-    /// Takes all of these atoms out, at rest or fresh, or none where as a multiset they are not there. It searches what
-    /// is there for each.
+    /// Takes all of these atoms out, at rest or fresh, or none where as a multiset they are not all there. It searches
+    /// the pool for each of them.
     fn remove_each(&mut self, fresh: &mut Vec<Atom>, atoms: &[Atom]) -> bool
         requires { IsRested self.old }
         ensures rested { IsRested self.new }
@@ -181,8 +181,8 @@ impl Rested {
         true
     }
 
-    /// Takes all of these atoms out, at rest or fresh, or none where as a multiset they are not there. It takes no
-    /// memory. Those that were put in last cost a walk over them.
+    /// Takes all of these atoms out, at rest or fresh, or none where as a multiset they are not all there. It takes no
+    /// memory. Where they were put in last, they cost one walk over them.
     pub(crate) fn remove_all(&mut self, fresh: &mut Vec<Atom>, atoms: &[Atom]) -> bool
         requires { IsRested self.old }
         ensures rested { IsRested self.new }

@@ -18,13 +18,16 @@ use chr_plans::rows::Seat;
 use chr_tables::tables::Tables;
 use std::alloc::AllocError;
 
-/// Rules, with the plans of their head places, and atoms that are at rest under them. Tables hash their keys under the
-/// seed.
+/// Rules, and atoms that are at rest under them.
 #[derive(Drop)]
 pub(crate) struct Rested {
+    /// The seed under which the tables hash keys.
     pub(crate) seed: u64,
+    /// The rules.
     pub(crate) rules: Vec<Rule>,
+    /// The plans of the rules' head places, by groups of atoms.
     pub(crate) directory: Directory,
+    /// The atoms at rest: a table for each group, and one for atoms of no group.
     pub(crate) tables: Tables,
 }
 
@@ -46,7 +49,7 @@ pub(crate) struct Occurrence {
     pub(crate) standing: Standing,
 }
 
-/// These rows die.
+/// The rows of these seats die.
 pub(crate) fn kill_all(tables: &mut Tables, seats: &[Seat])
     requires { (q : ℕ) → q < length seats.now →
         IsTrue (is_some (atom_in (rows_of tables.old.tables.items) (seat seats.now q))) }
@@ -59,8 +62,8 @@ pub(crate) fn kill_all(tables: &mut Tables, seats: &[Seat])
 }
 
 impl Rested {
-    /// The first instance of a rule with the active atom, whose table has this number, among its heads and the others
-    /// in the rows. The search goes on where it has stood.
+    /// The first instance of a rule that has the active atom, whose table has the number `table`, among its heads and
+    /// the others in the rows. The search goes on at `from`, where it has stood before.
     pub(crate) fn react(
         &mut self,
         table: usize,

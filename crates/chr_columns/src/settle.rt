@@ -19,9 +19,9 @@ use std::alloc::AllocError;
 /// What fresh atoms came to.
 #[derive(Clone, Copy, Debug, PartialEq, Eq)]
 pub(crate) enum Outcome {
-    /// One of them fired a rule.
+    /// A fresh atom fired a rule.
     Fired,
-    /// They joined those at rest.
+    /// All fresh atoms joined those at rest.
     AtRest,
 }
 
@@ -39,8 +39,8 @@ fn pop_into(fresh: &mut Vec<Atom>, active: &mut Atom)
 }
 
 impl Rested {
-    /// The active atom fires one of the rules, or joins those at rest. The search for it goes on where it has stood;
-    /// where the atom is kept, it can go on there once more.
+    /// The active atom fires one of the rules, or joins those at rest. The search for its partners goes on where it has
+    /// stood; where the atom is kept, it can go on there in the next step.
     fn take(
         &mut self,
         active: &Atom,

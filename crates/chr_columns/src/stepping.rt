@@ -37,8 +37,8 @@ fn start_over(rested: &mut Rested, fresh: &mut Vec<Atom>, rules: &[Rule]) -> Res
     Ok(())
 }
 
-/// The rows are under these rules, whatever they were under: where they were under others all atoms become fresh.
-/// Where memory is refused nothing changes.
+/// Puts the rows under these rules. Where they were under other rules all atoms become fresh. Where memory is refused
+/// nothing changes.
 fn stand_under(
     rested: &mut Rested,
     fresh: &mut Vec<Atom>,
@@ -59,8 +59,8 @@ fn stand_under(
     start_over(rested, fresh, rules)
 }
 
-/// A pool at rest keeps room for at most so many fresh atoms: as many as wait for several workers, most of which may be
-/// in one pool. More come at once where sets of operations are merged.
+/// A pool at rest keeps room for at most this many fresh atoms: as many as wait for several workers, most of which may
+/// be in one pool. More come at once where sets of operations are merged.
 const MOST_ROOM: usize = 16_384;
 
 /// Gives room for fresh atoms back, where none is fresh and there is room for many.
@@ -72,7 +72,8 @@ fn give_room_back(fresh: &mut Vec<Atom>)
     }
 }
 
-/// Steps under the rules of the rows: so many, or fewer where nothing is fresh any more, or where memory is refused.
+/// Takes `most` steps under the rules of the rows, or fewer where nothing is fresh any more, or where memory is
+/// refused.
 fn advance_own(
     rested: &mut Rested,
     fresh: &mut Vec<Atom>,
@@ -106,7 +107,7 @@ fn advance_own(
     Ok(most)
 }
 
-/// Steps under these rules: so many, or fewer where the store is at rest then, or where memory is refused.
+/// Takes `most` steps under these rules, or fewer where the store is at rest then, or where memory is refused.
 pub(crate) fn advance_in(
     rested: &mut Rested,
     fresh: &mut Vec<Atom>,

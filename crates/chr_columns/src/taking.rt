@@ -23,7 +23,7 @@ fn row_at(rows: &[Row], place: usize) -> Row
     rows.get(place).copied().unwrap_or(Row::Fresh(0))
 }
 
-/// So many rows from this one on.
+/// `count` rows, from the one at `first` on.
 fn rows_from(rows: &[Row], first: usize, count: usize) -> ArrayVec<Row, MAX_HEADS>
     requires few { count ≤ MAX_HEADS }
     requires ends { first + count < 2 ^ 64 }
@@ -59,7 +59,7 @@ fn followed(rows: &[Row], last: usize, to: Row) -> ArrayVec<Row, MAX_HEADS>
     all
 }
 
-/// Takes out the fresh atom at this place, where it is this one. The last one comes into its place.
+/// Takes out the fresh atom at this place, where it is `atom`. The last one comes into its place.
 fn take_fresh(fresh: &mut Vec<Atom>, place: usize, atom: &Atom) -> bool
     ensures taken { OnTrue result (store_of fresh.new.items ⊕ one atom.now ≡ store_of fresh.old.items) }
     ensures same { OnFalse result (fresh.new ≡ fresh.old) }
@@ -75,7 +75,7 @@ fn take_fresh(fresh: &mut Vec<Atom>, place: usize, atom: &Atom) -> bool
 }
 
 impl Rested {
-    /// Takes out the atom of this row, where it is this one.
+    /// Takes out the atom at rest in this row, where it is `atom`.
     fn take_at_rest(&mut self, seat: Seat, atom: &Atom) -> bool
         requires { IsRested self.old }
         ensures rested { IsRested self.new }
@@ -96,7 +96,7 @@ impl Rested {
         true
     }
 
-    /// Takes out the atom of this row, where it is this one.
+    /// Takes out the atom of this row, at rest or fresh, where it is `atom`.
     fn take_from(&mut self, fresh: &mut Vec<Atom>, row: Row, atom: &Atom) -> bool
         requires { IsRested self.old }
         ensures rested { IsRested self.new }
@@ -125,7 +125,7 @@ impl Rested {
         }
     }
 
-    /// Takes out these atoms, as far as they are there, each by its row: the first has this one of the rows. It takes
+    /// Takes out these atoms, as far as they are there, each by its row; the rows begin at the one at `first`. It takes
     /// no memory.
     pub(crate) fn take_all(
         &mut self,

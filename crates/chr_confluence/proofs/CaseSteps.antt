@@ -64,7 +64,7 @@ module _ (r1 r2 : Rule) (m : List ℕ) (v1 v2 : Valuation) where
     after = refl;
   }
 
--- what a step leaves
+-- what an instance leaves of a store and some atoms more, where it takes only from the store
 moved : (r : Rule) (v : Valuation) (s t : Store) → t ≡ side r v s → (q : Atom) → count t q
     ≡ (count s q - count_of q (atoms_at v r.removed.items)) + count (store_of (atoms_at v r.body.items)) q
 moved r v s t e q =

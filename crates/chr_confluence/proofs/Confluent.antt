@@ -42,7 +42,7 @@ joinable rules w lower one s t u values p q =
     (reaches_on (Step rules) s u b.0 q b.1.0, b.1.1) in
     (a.0, a.1.0, subst (Reaches (Step rules) u) (sym same) b.1.0)
 
--- two normal forms that are joinable are equal, since no step leads on
+-- two normal forms that are joinable are equal, since no step leads on from them
 pub one_normal_form : (rules : List Rule) → ReachedAreJoinable rules → Confluent rules
 one_normal_form rules joins s t u values p q =
     let j = joins s t u values p.0 q.0 in

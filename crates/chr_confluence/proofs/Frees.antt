@@ -238,7 +238,7 @@ module _ (rules : List Rule) (i j : ℕ) (r1 r2 : Rule) (at1 : slice_get rules i
               ∙ sym (on x ∙ ap (term_value w) h.1)
         ]
 
-    -- and its values are among the representative's values and the constants
+    -- each variable's value is among the representative's values and the constants
     pub within : (x : ℕ) → 0 < x → x ≤ variables_of r1 + variables_of r2
         → among (zip zs (map w (free_variables σ r1 r2))) cs (instance_at σ (free_variables σ r1 r2) zs x) ≡ true
     within x l g = elim (classified x l g) as (λ _. among (zip zs (map w (free_variables σ r1 r2))) cs

@@ -195,7 +195,8 @@ greedy_counts bs used (a ∷ as') q = by (place_for used a 0 bs) refl
     by zero h more = sym (ap (count_of q) (left_over_before used 0 0 bs (omega arith))) ∙ more
     by (suc p) h more = let f = place_found used a 0 bs p h in let c = f.counts q in omega (arith, c, more)
 
--- with the first list, what is left over is no more than the greater of both
+-- where the atoms of as' are matched greedily, they and the atoms of bs that are left over are, of each atom, no more
+-- than the greater of both lists has
 greedy_bound : (bs : List Atom) (used : List ℕ) (as' : List Atom) (q : Atom)
     → count_of q as' + count_of q (left_over (taken bs used as') 0 bs) ≤ max (count_of q as')
     (count_of q (left_over used 0 bs))
@@ -307,8 +308,9 @@ module _ (ks1 rs1 ks2 rs2 : List Atom) where
   left_best : left_over (taken (ks2 ++ rs2) [] (ks1 ++ rs1)) 0 (ks2 ++ rs2) ≡ left_over best 0 (ks2 ++ rs2)
   left_best = left_over_same _ _ 0 (ks2 ++ rs2) (λ p. names_taken (ks2 ++ rs2) [] (ks1 ++ rs1) p ∙ or-false _)
 
-  -- Either a matching matches_removed a removed head, and what it covers is no more than the greater of both, or each
-  -- can lose the removed heads of the other and still have its own.
+  -- Either some matching has a removed head among the matched, and its heads, the matched ones once, are no more than
+  -- the greater of both lists of heads; or each of the two can lose the removed heads of the other and still have its
+  -- own.
   pub touching_or_apart : ((m : List ℕ) × Matches ks1 rs1 ks2 rs2 m
       × ((q : Atom) → count_of q (ks1 ++ rs1) + count_of q (left_over m 0 (ks2 ++ rs2)) ≤ max (count_of q (ks1 ++ rs1))
       (count_of q (ks2 ++ rs2))))

@@ -1,4 +1,4 @@
--- There is at most one proof that rules are confluent, so a type may keep one; and what refutes it.
+-- Any two proofs that rules are confluent are equal, so a type may keep one; and what refutes confluence.
 use Rattle.std.specs.Prelude.{◌≡◌, List}
 use base.Stored.{Coded-set}
 use Rattle.chr_base.specs.declared.rule.Rule.{Rule}

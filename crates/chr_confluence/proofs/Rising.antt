@@ -175,7 +175,7 @@ module _ (f : ℤ → ℤ) (d : ℤ → Bool) where
         (fixes_guard r fixes) ∙ st.guard;
   }
 
-  -- so the step is one between the renamed stores
+  -- a step of a rule is a step of it between the renamed stores
   pub rising : KeepsOrder f d → (r : Rule) (v : Valuation) (s t : Store) → FixesRule f d r → Each (args_in d) s
       → StepBy r v s t → StepBy r (λ x. f (v x)) (rename f s) (rename f t)
   rising keeps r v s t fixes each st = step_carried (rename_atom f) r v (λ x. f (v x)) s t

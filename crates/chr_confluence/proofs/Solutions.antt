@@ -106,7 +106,7 @@ meets_moved g v w (e ∷ es) h m = (
       (λ t i. h t (inr (inr i))) m.1,
 )
 
--- one more at y
+-- the valuation with one more at y
 bump : ℕ → Valuation → Valuation
 bump y v x = cond (nat_eq x y) (v x +ℤ pos 1) (v x)
 
@@ -119,7 +119,7 @@ unfolding bump
 bump_other y v x n = elim (nat_eq x y) as (λ b. nat_eq x y ≡ b → cond b (v x +ℤ pos 1) (v x) ≡ v x)
     [ true ↦ λ e. absurd (n (eqb-true x y e)) | false ↦ λ e. refl ] refl
 
--- one more at the value c
+-- the value with one more if it is c
 lift : ℤ → ℤ → ℤ
 lift c z = cond (int_eq z c) (z +ℤ pos 1) z
 
@@ -186,7 +186,7 @@ module _ (σ : Substitution) (es : List (Term × Term)) (solves : IsMostGeneralU
             absurd (omega (arith, ints, p, q, s, o)))
       ]
 
-  -- a variable that does not stand for itself stands in the equations, and so does what stands for it
+  -- a variable that does not stand for itself is a term of the equations, and the term that it stands for is one
   pub terms_stand : (x : ℕ) → (σ x ≡ Variable x) ⊎ (In (Variable x) (equation_terms es) × In (σ x) (equation_terms es))
   terms_stand x = elim (alike (σ x) (Variable x)) as (λ _. (σ x ≡ Variable x)
       ⊎ (In (Variable x) (equation_terms es) × In (σ x) (equation_terms es))) [

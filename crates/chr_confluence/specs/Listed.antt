@@ -33,7 +33,7 @@ OverlapIsJoinable rules r1 r2 m =
     × AreRepresentatives rules r1 r2 σ rs
     × ((zs : List ℤ) → In zs rs → guards_hold σ r1 r2 zs ≡ true → ListedCaseIsJoinable rules r1 r2 m σ zs))
 
--- so it is of each overlap of the rules; each rule is overlapped with those from itself on
+-- each overlap of the rules is joinable; each rule is overlapped with those from itself on
 abbrev pub ListedAreJoinable : List Rule → Type 0
 ListedAreJoinable rules =
     (i j : ℕ) (r1 r2 : Rule) → slice_get rules i ≡ Some r1 → slice_get rules j ≡ Some r2 → i ≤ j

@@ -6,7 +6,7 @@ use Rattle.chr_base.specs.declared.atom.Atom.{Atom}
 use Rattle.std.specs.Prelude.{if◌then◌else◌, ⊤}
 
 -- A matching is a list with an entry for each place of the first heads: 0, or the place of the second that it is
--- matched with, counted from 1. This one names the place.
+-- matched with, counted from 1. It names the place p where p is one of its entries.
 abbrev pub names : List ℕ → ℕ → Bool
 names m p = list_any (nat_eq p) m
 

@@ -12,7 +12,7 @@ use Rattle.chr_base.specs.Rules.{heads_of, no_pattern}
 use Rattle.chr_confluence.specs.Matchings.{IsInjective, matches_removed}
 use Rattle.std.specs.Prelude.{⊤}
 
--- heads at matched places have one symbol, and so many arguments
+-- heads at matched places have one symbol, and as many arguments
 abbrev pub SameSymbols : List Pattern → List ℕ → List Pattern → Type 0
 SameSymbols qs [] [] = ⊤
 SameSymbols qs [] (p ∷ ps) = ⊥
@@ -23,13 +23,13 @@ SameSymbols qs (suc k ∷ m) (p ∷ ps) =
     × (p.symbol.0 ≡ q.symbol.0) × (length p.args.items ≡ length q.args.items))
     × SameSymbols qs m ps
 
--- a matching of the heads of two rules, of which a matched one is removed in its rule
+-- a matching of the heads of two rules, with a matched head that is removed in its rule
 pub record IsMatching (r1 r2 : Rule) (m : List ℕ) : Type 0 where
   pub symbols : SameSymbols (heads_of r2) m (heads_of r1)
   pub apart : IsInjective m
   pub touching : matches_removed (length r1.kept.items) (length r2.kept.items) m ≡ true
 
--- such a matching of the rules at the places i and j, the second not before the first
+-- a matching of the rules at the places i and j, the second not before the first
 pub record IsOverlap (rules : List Rule) (i j : ℕ) (m : List ℕ) : Type 0 where
   pub rule1 : Rule
   pub rule2 : Rule
@@ -47,7 +47,7 @@ abbrev pub renamed_apart : ℕ → Term → Term
 renamed_apart k (Variable x) = Variable (k + x)
 renamed_apart k (Constant c) = Constant c
 
--- argument by argument, for each matched place
+-- the equations of the arguments at all matched places, where the first rule has k variables
 abbrev pub equations : ℕ → List Pattern → List ℕ → List Pattern → List (Term × Term)
 equations k qs [] ps = []
 equations k qs (e ∷ m) [] = []

@@ -26,7 +26,7 @@ assignment (f ∷ fs) [] x = pos 0
 abbrev pub instance_at : Substitution → List ℕ → List ℤ → Valuation
 instance_at σ fs zs x = term_value (assignment fs zs) (σ x)
 
--- what this gives the variables of the first rule, and those of the second
+-- the values at a representative of the variables of the first rule, and of those of the second
 abbrev pub left_at : Substitution → Rule → Rule → List ℤ → Valuation
 left_at σ r1 r2 zs = instance_at σ (free_variables σ r1 r2) zs
 

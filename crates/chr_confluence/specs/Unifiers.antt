@@ -30,6 +30,6 @@ pub record IsMostGeneralUnifier (σ : Substitution) (es : List (Term × Term)) :
   pub meets : (v : Valuation) → Unifies v es → IsInstanceOf σ v
   pub met : (v : Valuation) → IsInstanceOf σ v → Unifies v es
 
--- no valuation unifies them, since two constants would be one
+-- no valuation unifies the equations, since two constants would be one
 abbrev pub HasNoUnifier : List (Term × Term) → Type 0
 HasNoUnifier es = (v : Valuation) → ¬ Unifies v es

@@ -11,7 +11,7 @@ ghost use Rattle.chr_confluence.specs.laws.Cases.{CasesMakeLocallyConfluent, Cas
 ghost use Rattle.chr_confluence.specs.laws.Cases.{FailingCaseRefutes};
 ghost use Rattle.chr_confluence.specs.laws.Parts.{PartsReach, PartsDetermine};
 
-/// Monotonicity: a step in a store is a step with the same effect in every larger store, and so goes on a run
+/// Monotonicity: a step in a store is a step with the same effect in every larger store, and a run goes on there, too
 /// (Frühwirth 2009).
 pub fn grow()
     ensures instances { InstancesGrow }
@@ -19,18 +19,18 @@ pub fn grow()
     ensures runs { ReachingGrows }
 {}
 
-/// Rising maps. A map that keeps the order of the values in a set, and fixes the constants of a rule, which are in it,
-/// carries each step of that rule on a store of such values to a step. And each list of 64-bit values is the image of
-/// the one that represents its order type, by such a map.
+/// Rising maps. A map keeps the order of the values in a set, and fixes the constants of a rule, which are in the set.
+/// Then it carries each step of the rule, on a store of values of the set, to a step. By such a map each list of 64-bit
+/// values is the image of the list that represents its order type.
 pub fn rising()
     ensures steps { StepsRise }
     ensures values { ValuesStay }
     ensures types { TypesRise }
 {}
 
-/// Peaks. Of two steps from one store either each is still possible after the other, with one end for both ways, or
-/// the store holds a case of their instances: heads of both, matched so that a removed one is among the matched, as
-/// overlaps are (after the critical pairs of Abdennadher, Frühwirth and Meuss 1999).
+/// Peaks. Of two steps from one store either each can still be taken after the other, and both ways end in one store;
+/// or the store holds a case of their instances: the heads of both, matched so that a removed one is among the matched,
+/// as overlaps are (after the critical pairs of Abdennadher, Frühwirth and Meuss 1999).
 pub fn peak()
     ensures peaks { PeaksCommuteOrOverlap }
     ensures matched { CasesAreMatched }
@@ -38,16 +38,16 @@ pub fn peak()
     ensures right { RightSideIsStep }
 {}
 
-/// Newman's lemma, for rules that lower a weight, and for the stores that pass a test which steps keep: where the ends
+/// Newman's lemma, for rules that lower a weight, and for the stores that pass a test which steps keep. Where the ends
 /// of any two steps from one such store are joinable, any two normal forms of one such store are equal (Newman 1942).
 pub fn newman()
     ensures rests { NormalFormsExist }
     ensures confluent { LocalConfluenceSuffices }
 {}
 
-/// Confluence by cases: steps keep 64-bit values, and rules that lower a weight are confluent where the sides of each
-/// of their cases are joinable (after Abdennadher, Frühwirth and Meuss 1999). Two normal forms that differ, behind two
-/// steps from one store or behind the two sides of a case, show that they are not.
+/// Confluence by cases. Steps keep 64-bit values. Rules that lower a weight are confluent where the sides of each of
+/// their cases are joinable (after Abdennadher, Frühwirth and Meuss 1999). They are not confluent where two steps from
+/// one store, or the two sides of a case, lead to normal forms that differ.
 pub fn confluence()
     ensures stay { StepsKeepValues }
     ensures local { LocallyConfluentAreConfluent }
@@ -57,9 +57,9 @@ pub fn confluence()
     ensures failing { FailingCaseRefutes }
 {}
 
-/// Confluence in the usual sense. For rules that lower a weight each store of 64-bit values has one normal form just
-/// where any two stores that one such store reaches are joinable (as Abdennadher, Frühwirth and Meuss 1999 and
-/// Frühwirth 2009 say it).
+/// Confluence in the usual sense: any two stores that one store of 64-bit values reaches are joinable (as Abdennadher,
+/// Frühwirth and Meuss 1999 and Frühwirth 2009 say it). Rules that lower a weight are confluent in this sense just
+/// where each such store has one normal form.
 pub fn joinability()
     ensures joinable { ConfluentAreJoinable }
     ensures confluent { JoinableAreConfluent }

@@ -72,7 +72,8 @@ fn wait_for(rt: &impl Wait, left: &Receiver<ToSquare>, inbox: Inbox<u64, Brand>)
     inbox.recv(rt).unwrap_or(0)
 }
 
-/// The sum of the squares of the first numbers, as many as there is room for tasks, by so many threads beside this one.
+/// The sum of the squares of the first 16 numbers, for each of which there is room as a task, by `threads` threads
+/// beside this one.
 fn sum_of_squares<R: Threads + Wait + Sync>(
     rt: &R,
     alloc: Global,

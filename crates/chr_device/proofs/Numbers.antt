@@ -63,7 +63,7 @@ module _ (name : Text) (most : ℕ) (named : IsNamed name most) where
   AreAccepted [] = ⊤
   AreAccepted (v ∷ vs) = (accepts false range v ≡ true) × AreAccepted vs
 
-  -- a row of the option has accepted values alone, which are read without a hyphen
+  -- a row of the option has only values that were accepted, and they are read without a hyphen
   abbrev IsSound : Row → Type 0
   IsSound r = bytes_eq r.id name ≡ true → (r.reading ≡ WithoutMinus) × AreAccepted r.values
 
@@ -151,7 +151,7 @@ module _ (name : Text) (most : ℕ) (named : IsNamed name most) where
           (values_accepted _ (next_none (repeat_fault again name rows) _
           (next_none (range_kinds 1 1 (length values)) _ e))) sound
 
-  -- an option with a number: this one, with its limit, or another one
+  -- an option with a number keeps rows sound: the option itself, with its limit, and any other
   number_keeps : (again : Bool) (id : Text) (limit : ℕ) → (bytes_eq id name ≡ true → limit ≡ most)
       → Keeps AreSound again (with_index 1 (filled (number_option id limit)))
   number_keeps again id limit same = go (bytes_eq id name) refl
@@ -177,7 +177,7 @@ module _ (name : Text) (most : ℕ) (named : IsNamed name most) where
   default_sound id how values rows other sound true = sound
   default_sound id how values rows other sound false = other_sound id how DefaultValue values rows other sound
 
-  -- an option without a value, which has the default `false`
+  -- an option without a value, and its default `false`, keep rows sound
   flag_keeps : (again : Bool) (id : Text) → bytes_eq id name ≡ false
       → Keeps AreSound again (with_index 1 (filled (flag_option id)))
   flag_keeps again id other = (
@@ -257,7 +257,7 @@ module _ (name : Text) (most : ℕ) (named : IsNamed name most) where
       go None keeps e = tt
       go (Some s) keeps e = level_keeps AreSound s keeps [] p.1 false [] e tt
 
-  -- the command at which the walk over the words stops, with the words after it
+  -- the command at which the walk over the words stops, and the words after it
   abbrev stop_met : List Text → Option (Text × List Text)
   stop_met words = stop_after (built chrrep).top.rules (names_of (built chrrep)) (argument_words chrrep words)
 

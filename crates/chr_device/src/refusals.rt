@@ -14,7 +14,7 @@ const COMMANDS: [&str; 5] = ["check", "explain", "run", "serve", "help"];
 /// The options that have a value.
 const WITH_VALUE: [&str; 3] = ["--replicas", "--workers", "--parts"];
 
-/// Whose options those are.
+/// The commands that have the options of [`WITH_VALUE`].
 const ANSWERING: [&str; 2] = ["run", "serve"];
 
 /// The options of `explain` alone.
@@ -36,17 +36,17 @@ enum Cause<'a> {
     OptionOf(&'a str, &'static str),
 }
 
-/// Whether a character is shown as it is.
+/// Whether a character is shown as it stands.
 fn is_plain(c: char) -> bool {
     c == ' ' || c.is_ascii_graphic() || c.is_alphanumeric()
 }
 
-/// Whether a word is shown as it is.
+/// Whether a word is shown as it stands.
 fn is_plain_word(word: &str) -> bool {
     word.chars().count() <= SHOWN && word.chars().all(is_plain)
 }
 
-/// The word as it is shown: cut where it is long, with what may not be printable by its number.
+/// A word as it is shown: cut where it is long, with the number of each character that may not be printable.
 fn shown(alloc: Global, word: &str) -> Result<String, AllocError> {
     let mut text = String::new(alloc);
     for c in word.chars().take(SHOWN) {
@@ -71,7 +71,7 @@ fn shown_words(alloc: Global, words: &[String]) -> Result<Vec<String>, AllocErro
     Ok(list)
 }
 
-/// What `clap` says of the words, as if they were written as they are shown.
+/// What `clap` says of the words, as if they had been written as they are shown.
 fn clap_text(alloc: Global, words: &[String], error: &Error) -> Result<String, AllocError> {
     if words.iter().all(|word| is_plain_word(word)) {
         return format!(in alloc; "{error}");
@@ -147,7 +147,8 @@ fn file_in(words: &[String]) -> Option<Cause<'_>> {
     None
 }
 
-/// What this option, which stands behind a command, shows. What stands behind one that there isn't may be its value.
+/// What this option, which stands behind a command, shows of the cause. An unknown option may have what stands behind
+/// it as its value.
 fn cause_in_option<'a>(option: &'a str, behind: &'a [String]) -> Option<Cause<'a>> {
     let name = name_of(option);
     match commands_with(name) {

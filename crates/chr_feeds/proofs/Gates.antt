@@ -105,7 +105,7 @@ laid size room count old new blank keeps more = record {
   ];
 }
 
--- bytes that are blank or those of a batch, and then a blank
+-- a byte that is blank or one of a batch, and a blank behind them
 faded_by_index : (bytes batch : List ℕ) → ((i : ℕ) → i < length batch
     → (get_or bytes i 0 ≡ 0) ⊎ (get_or bytes i 0 ≡ get_or batch i 0)) → get_or bytes (length batch) 0 ≡ 0
     → IsFaded bytes batch
@@ -232,7 +232,7 @@ short_nothing (b ∷ []) short = elim (cases_eq b gate) [
 ]
 short_nothing (a ∷ b ∷ c) short = absurd (omega arith)
 
--- one step from the only content
+-- one step from a content that was the only one
 pub stepped : (step : List ℕ → List ℕ → Type 0) (file : List ℕ) (old new : List ℕ → Type 0) → Only file old
     → Follows step old new → (c : List ℕ) → new c → step file c
 stepped step file old new only follows c left =
@@ -245,7 +245,7 @@ room_kept file size room c is blank some keeps =
     (closed_kept (records_of file) size (size + room) file c (closed_at file size room is blank some) keeps
     (omega (arith, some)))
 
--- what a batch that is staged, or is being staged, leaves in front
+-- what stands in front of a batch that is staged, or is being staged
 pub staged_front : (file : List ℕ) (size room : ℕ) (c : List ℕ) → size ≡ size_of file → IsBlank size room file
     → 0 < room → KeepsFront (size + 1) file c → IsClosed (records_of file) size c
 staged_front file size room c is blank some keeps =

@@ -3,7 +3,7 @@ use Rattle.std.specs.Prelude.{◌≡◌, ℕ, ◌+◌, ◌<◌, ◌≤◌, List,
 use Rattle.std.specs.List.{Contains}
 use Rattle.chr_records.specs.Records.{records_of, IsFront}
 
--- so many blanks stand from there on
+-- n blanks stand from `at` on
 pub record IsBlank (at n : ℕ) (file : List ℕ) : Type 0 where
   pub within : at + n ≤ length file
   pub each : (i : ℕ) → i < n → slice_index file (at + i) ≡ 0

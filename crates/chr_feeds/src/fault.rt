@@ -6,14 +6,14 @@ ghost use Rattle.chr_feeds.specs.declared.fault.FeedFault.TheVariants.{Disk, Mem
 use std::alloc::AllocError;
 use std::io;
 
-/// After `Disk` the feed is only read: no clause says that more may be appended.
+/// Why a feed gave up. After `Disk` the feed is only read: no clause says that more may be appended.
 #[derive(Clone, Copy, Debug, PartialEq, Eq)]
 pub enum FeedFault {
     /// The disk refused a call. What was to be appended may be there after a crash, all of it or a front.
     Disk,
-    /// The file is not empty, though the disk had said so.
+    /// The disk says that the file is not empty, which it has to be.
     NotEmpty,
-    /// The feed has no room for as much.
+    /// The feed would have more than [`MAX_SIZE`](crate::MAX_SIZE) bytes.
     Full,
     /// No memory was left.
     Memory,

@@ -12,8 +12,8 @@ use crate::limits::{BLOCK, MAX_SIZE};
 use sqlite_disk::Disk;
 use std::alloc::Global;
 
-/// A file of records, and what its writer knows of it: how many bytes the records take, and how many blanks stand
-/// behind them.
+/// A file of records that is written, and what its writer knows of it: the size of the records, and how many blanks
+/// stand behind them.
 #[derive(Drop)]
 pub struct Feed<D: Disk> {
     pub disk: D,
@@ -33,7 +33,8 @@ impl<D: Disk + Drop> Feed<D> {
     ///
     /// # Errors
     ///
-    /// `Disk` where a call of the disk has failed, and `NotEmpty` where it tells a lie. The disk is handed back.
+    /// `Disk` where a call of the disk has failed, and `NotEmpty` where the disk says that the file is not empty, which
+    /// is a lie. The disk is handed back.
     pub fn create(mut disk: D) -> Result<Feed<D>, NotCreated<D>>
         requires empty { D.seen disk ≡ [] }
         requires durable { Only (D.seen disk) (D.may_leave disk) }
@@ -61,12 +62,13 @@ impl<D: Disk + Drop> Feed<D> {
 
 impl<D: Disk> Feed<D> {
     /// Appends records, and waits until the disk has them. Whenever the machine stops, the old records are left, and a
-    /// front of these.
+    /// front of the new ones.
     ///
     /// # Errors
     ///
     /// `Disk` where a call of the disk has failed: then the feed need not be at rest, so it is not appended to again.
-    /// `Full` where the feed would pass [`MAX_SIZE`], and `Memory`: then it goes on as it was.
+    /// `Full` where the feed would pass [`MAX_SIZE`], and `Memory` where no memory was left: then the feed goes on as
+    /// it was.
     pub fn append(&mut self, alloc: Global, batch: &[u8]) -> Result<(), FeedFault>
         requires at_rest { IsAtRest D.seen D.may_leave D.is_usable self.old }
         requires whole { IsWhole batch.now }

@@ -1,6 +1,6 @@
 //! Limits of a feed.
 
-/// No feed has more bytes, of records and of blanks behind them.
+/// The most bytes of a feed, of records and of blanks behind them.
 pub const MAX_SIZE: usize = 1 << 60;
 
 /// How many blanks are laid at a time, beyond what is needed.

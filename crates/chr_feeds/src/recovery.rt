@@ -9,7 +9,7 @@ use chr_records::{Records, read_records};
 use sqlite_disk::{Crash, Disk};
 use std::alloc::Global;
 
-/// The bytes of a file, while the disk has told no lie.
+/// The bytes of a file. They are right unless the disk has told a lie.
 ///
 /// # Errors
 ///

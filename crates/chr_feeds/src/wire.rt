@@ -18,7 +18,7 @@ pub trait Wire {
     ///
     /// # Errors
     ///
-    /// `Disk` where it can't be sent.
+    /// `Disk` where the message can't be sent.
     fn send_told<D: Disk>(&mut self, disk: &D, text: &[u8]) -> Result<(), FeedFault>
         requires { IsDurable (D.may_leave disk.now) text.now }
         ensures { OnOk result (told self.new ≡ text.now ∷ told self.old) };
@@ -28,7 +28,7 @@ pub trait Wire {
 ///
 /// # Errors
 ///
-/// Those of `append`, and of the wire.
+/// Those of [`Feed::append`], and of the wire.
 pub fn keep_and_tell<D: Disk, W: Wire>(
     alloc: Global,
     feed: &mut Feed<D>,

@@ -7,7 +7,7 @@ use sqlite_disk::{Crash, Disk, Tally, digest_of};
 use std::alloc::{AllocError, Global};
 use std::io;
 
-/// What is written is there after a crash, synced or not.
+/// A disk in memory: what is written is there after a crash, synced or not.
 #[derive(Drop)]
 pub(crate) struct Lasting {
     bytes: Vec<u8>,

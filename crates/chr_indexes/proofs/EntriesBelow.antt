@@ -60,7 +60,7 @@ sought_wanted rows hash range r w = (
   w.2,
 )
 
--- the number below a place
+-- the newest row for which P holds, from a place that lies above all such rows below a given one
 pub found_newest : (P : ℕ → Type 0) (found : Option ℕ) (place : ℕ) → SomeIff found (1 ≤ place) (place - 1)
     → ((r : ℕ) → P r → r < place) → IfSome found (λ row. (other : ℕ) → P other → other ≤ row)
 found_newest P None place is above = tt
@@ -135,7 +135,7 @@ pub found_none_below : (P : ℕ → Type 0) (row : ℕ) (found : Option ℕ) (pl
 found_none_below P row None place is above = λ other l p. (let a = above other l p in is (omega (arith, a)))
 found_none_below P row (Some next) place is above = tt
 
--- the same up to a row
+-- the newest row for which P holds, from a place that lies above all such rows up to a given one
 pub found_newest_to : (P : ℕ → Type 0) (row : ℕ) (found : Option ℕ) (place : ℕ) → SomeIff found (1 ≤ place) (place - 1)
     → ((r : ℕ) → r ≤ row → P r → r < place)
     → IfSome found (λ next. (other : ℕ) → other ≤ row → P other → other ≤ next)

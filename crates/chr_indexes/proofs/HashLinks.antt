@@ -95,7 +95,7 @@ skip_head slots alive links heads s h c l e p dead =
       next_in = c.next_in;
     }
 
--- the same below a row
+-- the place after a row holds a dead row: the place after that takes its part
 pub skip_link : (slots : List ℕ) (alive : List Bool) (links heads : List ℕ) (r h : ℕ)
     → IsChained slots alive links heads → r < length slots → h ≡ get_or links r 0 → 0 < h
     → get_or alive (h - 1) false ≡ false → IsChained slots alive (set links r (get_or links (h - 1) 0)) heads

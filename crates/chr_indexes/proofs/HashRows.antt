@@ -96,7 +96,7 @@ next_above n hs bs hash row at res r f below between l e =
     let v = entry_of hs bs row hash f in
     between r (below r l (slot_at n hs r w.0 ∙ ap (λ h. h % n) (w.2 ∙ sym v.2) ∙ sym (slot_at n hs row v.0)) w.1) e
 
--- the same from a row on that has this hash, dead or alive
+-- a row with this hash lies at or below the newest live place from a row on that has this hash, dead or alive
 pub here_above : (n : ℕ) (hs : List ℕ) (bs : List Bool) (hash row at res r : ℕ) → row < length hs → get_or hs row 0
     ≡ hash
     → ((r : ℕ) → r < row + 1 → get_or (slots_of n hs) r 0 ≡ get_or (slots_of n hs) row 0 → get_or bs r false ≡ true
@@ -121,7 +121,7 @@ passed n hs bs hash at to from r p within slot other below above l e =
     let ne : r ≡ at - 1 → ⊥ = λ same. other (ap (λ k. get_or hs k 0) (sym same) ∙ w.2) in
     below r (omega (arith, a, ne, p)) (slot_at n hs r w.0 ∙ ap (λ h. h % n) w.2 ∙ sym slot) w.1
 
--- one more row
+-- rows in chains, with one more row
 pub chained_push : (n : ℕ) (rows : List Row) (heads : List ℕ) (x : Row) (s m : ℕ) → AreChained n rows heads
     → s ≡ x.hash % n → s < length heads → x.next ≡ get_or heads s 0 → m ≡ length rows + 1 → length rows + 1 < 2 ^ 32
     → AreChained n (rows ++ x ∷ []) (set heads s m)

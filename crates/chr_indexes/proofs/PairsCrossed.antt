@@ -59,7 +59,7 @@ pub pair_made : (e f : Entry) → e.hash ≡ f.hash → pair_of (Some e) (Some f
 pair_made e f same = ap (λ b. cond b (Some (record { hash = e.hash; first = e.value; second = f.value })) None)
     ((unsigned_Decides e.hash f.hash).1 same)
 
--- what is wanted of a pair is wanted of both its entries, and the other way round
+-- a pair has a hash and values in the ranges just where each of its entries has that hash and a value in its range
 pub crossed_both : (lefts rights : List (Option Entry)) (hash : ℕ) (first second : Range) (r : ℕ)
     → IsCrossed (pairs_of lefts rights) hash first second r
     → IsWanted lefts hash first r × IsWanted rights hash second r
@@ -78,7 +78,7 @@ both_crossed lefts rights hash first second r v w = (
   w.3,
 )
 
--- rows come, die, and are as many
+-- where both indexes have as many rows, they do after a row more, and after a row's death
 pub pairs_push : (lefts rights : List (Option Entry)) (hash : ℕ) (first second : ℤ) → length lefts ≡ length rights
     → pairs_of (lefts ++ Some (record { hash = hash; value = first }) ∷ [])
     (rights ++ Some (record { hash = hash; value = second }) ∷ [])

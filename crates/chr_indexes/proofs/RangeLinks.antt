@@ -99,7 +99,7 @@ module _ (n : ℕ) (rows : List Row) where
     ]
   ]
 
-  -- and is that of one row more
+  -- one more link, that of the next row, is put in its place
   pub linked_more : (links : List Link) (k : ℕ) (l : Link) → AreLinked n rows links k → k < length links
       → IsLink n rows k l → AreLinked n rows (set links k l) (k + 1)
   linked_more links k l are here i j g = elim (cases_lt j k) as (λ _. IsLink n rows j (link_at (set links k l) j)) [
@@ -116,7 +116,7 @@ module _ (n : ℕ) (rows : List Row) where
     | inr most ↦ (let b = i.bounded q (omega (arith, g)) most w in absurd (none _ b has))
   ]
 
-  -- what is sought and was not passed before is not passed now
+  -- a row that is sought lies below a place that passes none of those sought
   pub passed : (hash : ℕ) (range : Range) (from at to bound : ℕ) → 0 < at → row_slot n rows (at - 1) ≡ hash % n
       → at ≤ bound + 1
       → (at ≡ bound + 1 → IsSought rows hash range (at - 1) → ⊥)
@@ -179,7 +179,7 @@ index_kept k before after links more heads kept same linked newest = (
   λ s l. newest_kept (length heads) k before after kept k s (get_or heads s 0) (omega arith) (newest s l),
 )
 
--- one more row
+-- one more row is pushed
 pub kept_push : (rows : List Row) (x : Row) → IsKept (length rows) rows (rows ++ x ∷ [])
 kept_push rows x = record {
   hash = λ q l. ap (λ (r : Row). r.hash) (get_or_append_left rows (x ∷ []) no_row q l);

@@ -34,7 +34,7 @@ IsIn range x = IsAtLeast range.least x × IsAtMost range.most x × IsOther range
 abbrev pub HasEntryHash : List (Option Entry) → ℕ → ℕ → Type 0
 HasEntryHash rows hash row = (e : Entry) × (get_or rows row None ≡ Some e) × (e.hash ≡ hash)
 
--- and a value in the range
+-- the row lives, has this hash and a value in the range
 abbrev pub IsWanted : List (Option Entry) → ℕ → Range → ℕ → Type 0
 IsWanted rows hash range row =
     (e : Entry) × (get_or rows row None ≡ Some e) × (e.hash ≡ hash) × IsIn range e.value

@@ -73,7 +73,7 @@ steps_at to_left to_right rules o r1 r2 σ zs h first second case =
       },
     )
 
--- a listed one, which a list of values makes
+-- both steps of a listed case, which a list of values makes
 module _ (laws : CaseLaws) (rules : List Rule) (o : Overlap) (r1 r2 : Rule) (h : IsOverlapOf rules o)
     (first : slice_get rules (o.first - 1) ≡ Some r1) (second : slice_get rules (o.second - 1) ≡ Some r2)
     (σ : Substitution)

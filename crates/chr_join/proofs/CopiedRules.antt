@@ -55,7 +55,7 @@ copies_unnamed rules k i same =
     by (Some r) None e = absurd (none-some (parts_of r) (sym e))
     by (Some r) (Some s) e = ap Some (one_unnamed r s (same_Some (parts_of r) (parts_of s) e))
 
--- by the test of equality
+-- rules that the code's test finds equal are copies
 pub equal_rules : (rules : List Rule) (k i : ℕ) (r s : Rule) (b : Bool) → k < length rules → i < length rules
     → r ≡ get_or rules k r → s ≡ get_or rules i s → b ≡ eq-value.it r s → b ≡ true → AreCopies rules k i
 equal_rules rules k i r s b within there is_r is_s e t =
@@ -235,7 +235,7 @@ module _ (rules : List Rule) where
         numbered = (omega (arith, one), omega (arith, two));
       }
 
-  -- by the sum of the numbers of both rules
+  -- all sorted cases of the overlaps join, by induction on the sum of the numbers of both rules
   joins_below : (os : List Overlap) → AreOverlaps rules os → All (IsSettled rules) os → (n : ℕ) (o : Overlap)
       → o.first + o.second ≤ n → IsOverlapOf rules o → Joins Sorted rules o
   joins_below os are settled zero o l h = let one = h.2.0 in absurd (omega (arith, one, l))
@@ -248,7 +248,7 @@ module _ (rules : List Rule) where
 
 -- ---- copies of rules
 
--- an overlap of copies is one
+-- an overlap of copies is an overlap
 copied_overlap : (rules : List Rule) (i j k l : ℕ) (m : List ℕ) → IsOverlap rules i j m → AreCopies rules k i
     → AreCopies rules l j → k ≤ l → IsOverlap rules k l m
 copied_overlap rules i j k l m h first second ordered =

@@ -115,7 +115,7 @@ equal_joins to_left to_right rules w lowers o r1 r2 σ zs h first second case eq
       (v2, refl, right),
     )
 
--- so a visit at which both guards hold finds a case that joins
+-- a visit at which both guards hold finds a case that joins
 module _ (s : Setting) (zs : List ℤ) (h : IsOverlapOf (rules_in s.weighed) s.overlap)
     (has : HasUnified (rules_in s.weighed) s.overlap s.unified) where
   guards_at : (b : Bool) → b ≡ guard_holds (assignment s.unified.free.items zs) s.unified.guards.items → (r1 r2 : Rule)
@@ -142,7 +142,7 @@ module _ (s : Setting) (zs : List ℤ) (h : IsOverlapOf (rules_in s.weighed) s.o
         more,
       )
 
--- and all sorted cases of the overlap join
+-- all sorted cases of the overlap join
 equal_all : LeftSideIsStep → RightSideIsStep → (s : Setting) (r1 r2 : Rule)
     (are : AreRulesOf (rules_in s.weighed) s.overlap r1 r2) → IsOverlapOf (rules_in s.weighed) s.overlap → HaveCases s
     → HaveEqualSides r1 r2 (classes_of s.unified)

@@ -82,7 +82,7 @@ portion_fits coverage rules a total k p most h is more =
     let within = is.within in
     omega (arith, few, number, within, most)
 
--- at the end
+-- where no rule is left, the rules are accepted
 pub all_joined : (coverage : Coverage) (rules : List Rule) (n total : ℕ) → length rules ≤ n
     → HaveJoined coverage rules n total → IsAcceptedBy coverage rules total
 all_joined coverage rules n total most h = record {
@@ -107,7 +107,7 @@ portion_refuses coverage rules a total p e h is refuses =
     refuses h.overlaps rest.0 (of_all rules (length rules) (h.overlaps ++ (p.overlaps.items ++ rest.0))
     (omega arith) all) (each_joinable coverage rules h.overlaps total h.joinable)
 
--- an overlap of these that has such a cause
+-- where the first overlap with a cause is one of a portion, the portion has that cause
 pub refuses_in : (coverage : Coverage) (rules : List Rule) (os : List Overlap) (i : ℕ) (o : Overlap) (n : ℕ) (e : Cause)
     → HaveJoinableCasesBy coverage rules (take i os) n → i < length os → o ≡ get_or os i o
     → RefusesAt coverage rules o e → RefusesIn coverage rules os e

@@ -67,7 +67,7 @@ side_once rules s st xs ys t u h g =
     let same = LeadsTo-once rules st s h.0 g.0 h.1 g.1 in
     plain_once rules xs ys g.0 t u (subst (λ x. IsPlainComputation rules xs x t) same h.2) g.2
 
--- so the derivation of a side ends where the side does
+-- the derivation of a side ends where the side does
 pub side_to : (rules : List Rule) (s : Store) (st : Step) (d : Derivation) (t : Store) → SideEnds rules s st t
     → (end : Store) × IsSideOf rules s st d end → IsSideOf rules s st d t
 side_to rules s st d t h is = subst (IsSideOf rules s st d) (side_once rules s st is.1.rest h.0 is.0 t is.1.runs h.1).1

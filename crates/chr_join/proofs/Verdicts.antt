@@ -42,7 +42,7 @@ joinable_more coverage rules os i o total k l e h c =
     (sym (take_more os i o l ∙ ap (λ x. take i os ++ x ∷ []) (sym e)))
     (more_joinable coverage rules (take i os) o total k h c)
 
--- so where each overlap has joinable cases, they have so many in all
+-- where each overlap has joinable cases, the overlaps have some number of them in all
 pub all_counted : (coverage : Coverage) (rules : List Rule) (os : List Overlap) → All (Joins coverage rules) os
     → (n : ℕ) × HaveJoinableCasesBy coverage rules os n
 all_counted coverage rules [] all = (0, refl)
@@ -91,7 +91,7 @@ all_few coverage rules (o ∷ os) n h =
     let sum = h.4 in
     omega (arith, here, rest, sum)
 
--- so the number of all cases has 64 bits
+-- the number of all cases up to an overlap has 64 bits
 pub total_fits : (coverage : Coverage) (rules : List Rule) (os : List Overlap) (i : ℕ) (o : Overlap) (total k : ℕ)
     → length os ≤ 2560000 → i < length os → HaveJoinableCasesBy coverage rules (take i os) total
     → HasJoinableCasesBy coverage rules o k → total + k < 2 ^ 64

@@ -7,18 +7,18 @@ use Rattle.chr_weights.specs.WeighedPrograms.{program_of}
 use Rattle.chr_join.specs.declared.accepted.Accepted.{Accepted}
 use Rattle.chr_join.specs.declared.coverage.Coverage.{Coverage}
 
--- its program with the weights
+-- the program of an accepted one, with its weights
 abbrev pub weighed_of : Accepted → Weighed
 weighed_of a = arc_value a.weighed
 
--- its program
+-- the program of an accepted one
 abbrev pub program_in : Accepted → Program
 program_in a = program_of (weighed_of a)
 
--- which cases were looked at
+-- which cases of the accepted program were looked at
 abbrev pub coverage_of : Accepted → Coverage
 coverage_of a = a.coverage
 
--- the number of all these cases
+-- the number of all cases that were looked at
 abbrev pub cases_of : Accepted → ℕ
 cases_of a = a.cases

@@ -10,7 +10,7 @@ use Rattle.chr_sorting.specs.SortedCaseLists.{AreSortedCases, HasTooManyCombinat
 use Rattle.chr_join.specs.declared.coverage.Coverage.{Coverage}
 use Rattle.chr_join.specs.declared.coverage.Coverage.TheVariants.{Joint, Sorted}
 
--- those at the order types of all its classes, or those that are sorted by the finest sorts of the rules
+-- the cases at the order types of all classes of the overlap, or those that are sorted by the finest sorts of the rules
 abbrev pub AreCasesBy : Coverage → List Rule → Overlap → List Case → Type 0
 AreCasesBy Joint rules o cs = AreCases rules o cs
 AreCasesBy Sorted rules o cs = (s : Sorts) × AreFinest rules s × AreSortedCases s rules o cs

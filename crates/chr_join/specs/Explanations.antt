@@ -43,7 +43,7 @@ IsRefusalBy coverage rules (cause.TooManyTypes t) =
     IsFirstBy coverage rules t.overlap × IsTooManyBy coverage rules t.overlap t.classes
 IsRefusalBy coverage rules cause.Memory = ⊤
 
--- by joint cases
+-- the cause is the first there is, by joint cases
 abbrev pub IsRefusal : List Rule → Cause → Type 0
 IsRefusal rules e = IsRefusalBy Joint rules e
 

@@ -62,7 +62,7 @@ AcceptedAreConfluent =
     (coverage : Coverage) (rules : List Rule) (w : Atom → ℕ) (n : ℕ) → RulesLower w rules
     → IsAcceptedBy coverage rules n → Confluent rules
 
--- Rules that a failing case refuses are not.
+-- Rules that a failing case refuses are not confluent.
 abbrev pub RefusedAreNotConfluent : Type 0
 RefusedAreNotConfluent =
     (coverage : Coverage) (rules : List Rule) (f : Failure) → IsRefusalBy coverage rules (cause.Fails f)

@@ -43,6 +43,6 @@ pub record IsFirstCaseBy (coverage : Coverage) (rules : List Rule) (o : Overlap)
   pub listed : AreCasesBy coverage rules o (before ++ c ∷ after)
   pub joinable : All (IsJoinable rules) before
 
--- by joint cases
+-- all overlaps of the rules have n joint cases, and each is joinable
 abbrev pub IsAccepted : List Rule → ℕ → Type 0
 IsAccepted rules n = IsAcceptedBy Joint rules n

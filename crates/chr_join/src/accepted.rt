@@ -20,17 +20,23 @@ use chr_weights::Weighed;
 use std::alloc::{AllocFailed, Global};
 use std::sync::Arc;
 
-/// A program that lowers, and of whose overlaps no case fails. So it is confluent: a store of 64-bit values has one
-/// normal form, however the rules are applied. Its stores hash the keys of their atoms under a seed, and are kept in so
-/// many pools at most.
+/// A program that lowers, and of whose overlaps no case fails. It is confluent: a store of 64-bit values has one normal
+/// form, however the rules are applied.
 #[derive(Drop)]
 pub struct Accepted {
+    // The program with its weights.
     weighed: Arc<Weighed>,
+    // Which cases were looked at.
     coverage: Coverage,
+    // How many cases were looked at, of all overlaps.
     cases: u64,
+    // The seed under which its stores hash the keys of their atoms.
     seed: u64,
+    // The most pools in which each of its stores is kept.
     pools: usize,
+    // No case fails that was looked at.
     ghost accepted: { ∥ IsAcceptedBy coverage (rules_in (arc_value weighed)) cases ∥₁ },
+    // Each store of 64-bit values has one normal form.
     ghost confluent: { Confluent (rules_in (arc_value weighed)) } by { Confluent-prop (rules_in (arc_value weighed)) },
 }
 
@@ -63,8 +69,8 @@ impl Accepted {
         })
     }
 
-    /// The same, whose stores hash keys under this seed. No answer depends on it; who doesn't know it can't choose
-    /// facts whose keys meet in one place.
+    /// The program with this seed, under which its stores hash keys. No answer depends on the seed. Who doesn't know it
+    /// can't choose facts whose keys have one hash.
     pub fn seeded(mut self, seed: u64) -> Accepted
         ensures weighed { weighed_of result ≡ weighed_of self }
         ensures coverage { coverage_of result ≡ coverage_of self }
@@ -79,7 +85,8 @@ impl Accepted {
         self.seed
     }
 
-    /// The same, whose stores are kept in so many pools at most, for as many threads. No answer depends on it.
+    /// The program with stores that are kept in at most `most` pools, for as many threads. No answer depends on the
+    /// number.
     pub fn in_pools(mut self, most: usize) -> Accepted
         ensures weighed { weighed_of result ≡ weighed_of self }
         ensures coverage { coverage_of result ≡ coverage_of self }
@@ -89,12 +96,12 @@ impl Accepted {
         self
     }
 
-    /// In how many pools stores are kept at most.
+    /// The most pools in which a store is kept.
     pub fn pools(&self) -> usize {
         self.pools
     }
 
-    /// The program with its weights, as it is shared.
+    /// The shared program with its weights.
     pub fn shared(&self) -> &Arc<Weighed>
         ensures { arc_value result.now ≡ weighed_of self.now }
     {
@@ -123,7 +130,7 @@ impl Accepted {
         self.coverage
     }
 
-    /// The number of all these cases of its overlaps.
+    /// The number of all cases of the program's overlaps, of those that the coverage looks at.
     pub fn cases(&self) -> u64
         ensures number { result ≡ cases_of self.now }
         ensures accepted { ∥ IsAcceptedBy (coverage_of self.now) (rules_of (program_in self.now)) result ∥₁ }
@@ -131,7 +138,7 @@ impl Accepted {
         self.cases
     }
 
-    /// Rests the part of a lease by itself. Its end is the one normal form of the part.
+    /// Rests the part of a lease by itself. What it comes to is the one normal form of the part.
     ///
     /// # Errors
     ///

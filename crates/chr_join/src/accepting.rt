@@ -62,15 +62,15 @@ fn judged(
     }
 }
 
-/// Accepts a program of which no case fails, of the cases that the coverage looks at. A case is a least store in
-/// which two rules, or a rule twice, can fire on shared atoms; it fails where the plain derivations of its two sides
-/// end in different stores (after Abdennadher, Frühwirth and Meuss 1999).
+/// Accepts a program of which no case fails, of the cases that the coverage looks at. A case is a least store in which
+/// two rules, or a rule twice, can fire on shared atoms. It fails where the plain derivations of its two sides end in
+/// different stores (after Abdennadher, Frühwirth and Meuss 1999).
 ///
 /// # Errors
 ///
-/// The program is handed back with the first cause there is, where overlaps and in each its cases are taken in order: a
-/// case that fails, with its two derivations; an overlap of more than 50,000 order types, or combinations of values of
-/// its sorts; or want of memory.
+/// The program is handed back with the first cause there is, by the order of overlaps, and of the cases in each: a case
+/// that fails, with its two derivations; an overlap of more than 50,000 order types, or combinations of values of its
+/// sorts; or want of memory.
 pub fn accept(
     rt: &(impl Threads + Sync),
     alloc: Global,

@@ -18,14 +18,14 @@ use std::alloc::{AllocError, Global};
 use std::ops::Range;
 use std::thread::Threads;
 
-/// So many overlaps are looked at ahead of their turn at first.
+/// The number of overlaps that are first looked at ahead of their turn.
 pub(crate) const BATCH: usize = 64;
 
-/// Then so many times as many as were looked at before: few threads are started, and an overlap that ends the verdict
-/// wastes no more than that.
+/// Each next time, this many times as many overlaps are looked at as were looked at before. So few threads are started,
+/// and an overlap that ends the verdict wastes no more than that.
 const GROWTH: usize = 3;
 
-/// The next overlaps from this place on, so many at most.
+/// The next overlaps from this place on, at most `most`.
 pub(crate) fn batch_from(overlaps: &[Overlap], place: usize, most: usize) -> &[Overlap]
     ensures { result.now ≡ take (length result.now) (drop place overlaps.now) }
 {
@@ -39,12 +39,12 @@ pub(crate) fn batch_from(overlaps: &[Overlap], place: usize, most: usize) -> &[O
 pub(crate) struct Ahead {
     /// The place of the first of these overlaps.
     pub(crate) start: usize,
-    /// No number stands where not all cases are known to be joinable.
+    /// Their numbers of cases. None where not all cases are known to be joinable.
     pub(crate) numbers: Vec<Option<usize>>,
 }
 
 impl Ahead {
-    /// None was looked at.
+    /// No overlaps were looked at.
     pub(crate) fn none(alloc: Global) -> Ahead
         ensures { (coverage : Coverage) (rules : List Rule) (os : List OverlapValue)
             → AreAhead coverage rules os result }
@@ -77,7 +77,7 @@ impl Ahead {
     }
 }
 
-/// The number of cases of an overlap, where all of them are joinable. None too where memory is refused.
+/// The number of cases of an overlap, where all of them are joinable and memory is not refused.
 fn number_of(alloc: Global, weighed: &Weighed, lister: &Lister, overlap: &Overlap) -> Option<usize>
     requires lister { IsListerOf (rules_in weighed.now) lister.now }
     requires overlap { IsOverlapOf (rules_in weighed.now) overlap.now }
@@ -116,7 +116,7 @@ fn numbers_of(
         .collect(rt, alloc)
 }
 
-/// Looks at the next overlaps from this place on, up to this end.
+/// Looks at the next overlaps from the place `places.start` on, none behind `places.end`.
 pub(crate) fn look_ahead(
     rt: &(impl Threads + Sync),
     alloc: Global,

@@ -15,12 +15,17 @@ use std::alloc::{AllocError, Global};
 /// Checks the cases of an overlap at the values that it visits, up to the first that fails.
 #[derive(Drop)]
 pub(crate) struct Checker<'a> {
+    /// What gives memory.
     pub(crate) alloc: Global,
+    /// The program.
     pub(crate) weighed: &'a Weighed,
+    /// The overlap of the cases.
     pub(crate) overlap: &'a Overlap,
+    /// The overlap with its matched heads made one.
     pub(crate) unified: &'a Unified,
     /// Whether both steps of each case lead to one store, so that no case has to be made.
     pub(crate) equal: bool,
+    /// The ends of stores that are known already.
     pub(crate) ends: Ends,
     /// The number of cases that have joined.
     pub(crate) passed: usize,
@@ -37,7 +42,7 @@ impl<'a> Checker<'a> {
     ghost use Rattle.chr_join.specs.working.Ends.{AreEnds};
     ghost use Rattle.chr_join.specs.working.Visits.{TellsEqualSides};
 
-    /// One that has visited nothing.
+    /// A checker that has visited nothing.
     pub(crate) fn new(
         alloc: Global,
         weighed: &'a Weighed,

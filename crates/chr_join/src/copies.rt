@@ -10,7 +10,7 @@ use chr_overlaps::Overlap;
 use chr_weights::Weighed;
 use std::alloc::{AllocError, Global};
 
-/// The first place at which a rule stands that says what the one at this place says.
+/// The first place at which stands a copy of the rule at `place`: a rule that says the same.
 fn original_of(rules: &[Rule], place: usize) -> usize
     requires { place < length rules.now }
     ensures at { result ≤ place }
@@ -24,7 +24,7 @@ fn original_of(rules: &[Rule], place: usize) -> usize
     place
 }
 
-/// For each rule the place of the first that says the same.
+/// For each rule the place of its first copy.
 pub(crate) fn originals(alloc: Global, weighed: &Weighed) -> Result<Vec<usize>, AllocError>
     ensures { IfOk result (λ places. AreOriginals (rules_in weighed.now) places.items) }
 {

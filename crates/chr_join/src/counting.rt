@@ -11,10 +11,10 @@ use rayon::prelude::*;
 use std::alloc::{AllocError, Global};
 use std::thread::Threads;
 
-/// So many classes have many order types, among constants or not.
+/// The least number of classes that have many order types, among constants or not.
 pub(crate) const MANY_CLASSES: usize = 6;
 
-/// From so many counts on the remembered ones give way to new ones.
+/// Once this many counts are remembered, new ones take their place.
 const MOST_COUNTS: usize = 256;
 
 /// Counts the values at which both guards of an overlap hold.
@@ -95,14 +95,14 @@ pub(crate) struct Count {
     pub(crate) number: usize,
 }
 
-/// Counts that are remembered: copies of rules have many overlaps with the same guards.
+/// Counts that are remembered, since copies of rules have many overlaps with the same guards.
 #[derive(Drop)]
 pub(crate) struct Counts {
     pub(crate) entries: Vec<Count>,
 }
 
 impl Counts {
-    /// None is known. It takes no memory.
+    /// No counts are known. It takes no memory.
     pub(crate) fn new(alloc: Global) -> Counts
         ensures { (constants : List ℤ) → AreCounts constants result.entries.items }
     {
@@ -111,8 +111,8 @@ impl Counts {
         }
     }
 
-    /// Adds the counts of these guards, which are shared out among threads, unless all are counted in no time. Where
-    /// many are remembered, the new ones take their place.
+    /// Adds the counts of these guards, which are shared out among threads, unless each is counted at once. Where many
+    /// counts are remembered, the new ones take their place.
     pub(crate) fn add_all(
         &mut self,
         rt: &(impl Threads + Sync),

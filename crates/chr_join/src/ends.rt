@@ -22,19 +22,20 @@ pub(crate) struct Known {
     pub(crate) end: Bag,
 }
 
-/// The ends of stores, each at the place that a hash of the store names. A store that comes to a taken place takes it.
+/// The ends of stores, each at the place that a hash of the store names. Where two stores have one place, the later is
+/// remembered.
 #[derive(Drop)]
 pub(crate) struct Ends {
     pub(crate) entries: Vec<Option<Known>>,
 }
 
-/// One more value in a hash.
+/// The hash with one more value.
 fn mixed(hash: u64, value: u64) -> u64 {
     let product = (hash ^ value).wrapping_mul(0x9E37_79B9_7F4A_7C15);
     product ^ (product >> 32)
 }
 
-/// An atom in a hash.
+/// The hash with the values of an atom.
 fn mixed_atom(hash: u64, atom: &Atom) -> u64 {
     let mut hash = mixed(hash, u64::from(atom.symbol.0));
     for value in atom.args.as_slice() {
@@ -53,7 +54,7 @@ fn place_of(store: &Bag) -> usize {
 }
 
 impl Ends {
-    /// None is known. It takes no memory.
+    /// No end is known. It takes no memory.
     pub(crate) fn new(alloc: Global) -> Ends
         ensures { (rules : List RuleValue) → AreEnds rules result.entries.items }
     {

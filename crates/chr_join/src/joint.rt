@@ -21,7 +21,8 @@ use chr_types::{has_more_types, visit_types};
 use chr_weights::Weighed;
 use std::alloc::{AllocError, Global};
 
-/// Whether so many classes have no more order types than an overlap may have. Numbers that have not are remembered.
+/// Whether `classes` classes have no more order types than an overlap may have. If so, the number is remembered in
+/// `known`.
 pub(crate) fn are_few(
     alloc: Global,
     classes: usize,

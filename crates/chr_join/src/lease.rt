@@ -42,13 +42,17 @@ pub struct NotStepped {
     pub fault: StepFault,
 }
 
-/// What came of a lease: a store that its part reaches under an accepted program. One is made by
-/// `Accepted::rest_part` and `Accepted::step_part` alone, or is a copy.
+/// What came of a lease: a store that its part reaches under an accepted program. Only `Accepted::rest_part` and
+/// `Accepted::step_part` make one, and a copy is one.
 #[derive(Drop)]
 pub struct Done {
+    // The program under which the part reaches the store.
     weighed: Arc<Weighed>,
+    // The lease's number.
     number: u64,
+    // The part that was leased out.
     part: Bag,
+    // The store that it reaches.
     result: Bag,
 }
 
@@ -108,7 +112,7 @@ impl Done {
         &self.result
     }
 
-    /// The program under which it does.
+    /// The program under which the part reaches the store.
     pub fn program(&self) -> &Program
         ensures { result.now ≡ program_of self.now.weighed }
     {

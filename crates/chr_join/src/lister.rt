@@ -15,11 +15,13 @@ use std::alloc::{AllocError, Global};
 /// What the cases of a program's overlaps are listed from.
 #[derive(Drop)]
 pub(crate) struct Lister {
-    /// Which cases are.
+    /// Which cases are listed.
     pub(crate) coverage: Coverage,
+    /// The constants of all rules, rising.
     pub(crate) constants: Vec<i64>,
+    /// The finest sorts of the program.
     pub(crate) sorting: Sorting,
-    /// So many first rules are known to have no overlap of which a sorted case fails.
+    /// The number of first rules that are known to have no overlap of which a sorted case fails.
     pub(crate) joining: usize,
 }
 
@@ -28,7 +30,8 @@ impl Lister {
     ghost use Rattle.chr_join.specs.Verdicts.{HasJoinableCasesBy};
     ghost use Rattle.chr_join.specs.working.Checking.{IsListerOf, RefusesAt};
 
-    /// That of these rules. So many first ones are known to have no overlap of which a sorted case fails.
+    /// The lister of these rules, of which the first `joining` are known to have no overlap of which a sorted case
+    /// fails.
     pub(crate) fn new(
         alloc: Global,
         weighed: &Weighed,
@@ -46,7 +49,7 @@ impl Lister {
         })
     }
 
-    /// So many overlaps are worth a thread of their own.
+    /// The least number of overlaps for which one more thread is begun.
     pub(crate) fn least_piece(&self) -> usize {
         match self.coverage {
             Coverage::Joint => 1,

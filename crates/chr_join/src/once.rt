@@ -15,8 +15,8 @@ pub fn verdicts_exist()
 {}
 
 /// The verdict on rules is determined, by each coverage. Accepted rules have one number of cases, and are refused for
-/// want of memory alone. Rules that are refused have one cause, but for want of memory: the same overlap, and of a
-/// case that fails the same two derivations with the same ends.
+/// want of memory alone. Rules that are refused for another cause have one such cause: the same overlap, and for a case
+/// that fails the same two derivations with the same ends.
 pub fn verdict_is_one()
     ensures accepted { AcceptedOnce }
     ensures refused { RefusedOnce }

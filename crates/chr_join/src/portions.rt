@@ -7,20 +7,20 @@ use chr_overlaps::{Overlap, overlaps_of};
 use chr_weights::Weighed;
 use std::alloc::{AllocError, Global};
 
-/// So many rules have their overlaps listed at once: 64 rules of four heads have 400,000 in all.
+/// The number of first rules whose overlaps are listed at once: 64 rules of four heads have 400,000 overlaps in all.
 const RULES_AT_ONCE: usize = 8;
 
-/// So many overlaps are looked at before threads are started.
+/// The number of overlaps that are looked at before threads are started.
 pub(crate) const FEW_OVERLAPS: usize = 32;
 
-/// So many overlaps are worth a thread of their own, where their sorted cases are looked at.
+/// The least number of overlaps for which one more thread is begun, where their sorted cases are looked at.
 pub(crate) const LEAST_PIECE: usize = 8;
 
-/// So much address space has to be left for threads: each asks for a heap of its own.
+/// The bytes of address space that have to be left for threads: each asks for a heap of its own.
 const HEAPS: usize = 256 << 20;
 
-/// So many items are worth a thread of their own, where so many are wanted. No number of them is where the system
-/// refuses the address space for heaps: each growth in a thread would ask it anew.
+/// The least number of items for which one more thread is begun: `wanted`, or more than there can be where the system
+/// refuses the address space for heaps, since each growth in a thread would ask it anew.
 pub(crate) fn worth_thread(alloc: Global, wanted: usize) -> usize {
     match Vec::<u8>::with_capacity(alloc, HEAPS) {
         Ok(_) => wanted,
@@ -57,7 +57,7 @@ pub(crate) fn portion_from(
     })
 }
 
-/// So many overlaps from this place of the rules on are looked at before threads are started.
+/// The number of overlaps from this place of the rules on that are looked at before threads are started.
 pub(crate) fn alone_from(place: usize) -> usize {
     if place == 0 { FEW_OVERLAPS } else { 0 }
 }

@@ -15,11 +15,11 @@ pub struct Failure {
     pub overlap: Overlap,
     /// The derivation that begins with the first rule's step. It starts at the case's store.
     pub left: Derivation,
-    /// Its end.
+    /// The end of the first derivation.
     pub left_end: Bag,
     /// The derivation that begins with the second rule's step. It starts at the case's store.
     pub right: Derivation,
-    /// Its end, another store.
+    /// The end of the second derivation, another store.
     pub right_end: Bag,
 }
 

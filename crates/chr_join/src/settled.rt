@@ -132,7 +132,7 @@ fn few_settled(
     true
 }
 
-/// The same, shared out among threads.
+/// Like [`few_settled`], but shared out among threads.
 fn many_settled(
     rt: &(impl Threads + Sync),
     alloc: Global,
@@ -180,8 +180,8 @@ fn are_settled(
         && many_settled(rt, alloc, weighed, sorting, originals, rest)
 }
 
-/// The number of overlaps before the first of these that has too many order types. That one ends a verdict by joint
-/// cases, so that nothing behind it has to be looked at.
+/// The number of overlaps before the first of these that has too many order types. It ends a verdict by joint cases, so
+/// nothing behind it has to be looked at.
 pub(crate) fn few_types(
     alloc: Global,
     weighed: &Weighed,
@@ -207,8 +207,9 @@ pub(crate) fn few_types(
     Ok(overlaps.len())
 }
 
-/// So many rules have among them and with all later ones no overlap of which a sorted case fails. Where these are all
-/// rules, the rules are confluent. Rules from one on that has an overlap of too many order types are not looked at.
+/// A number of first rules that have, among them and with all later ones, no overlap of which a sorted case fails.
+/// Where these are all rules, the rules are confluent. The search stops at a rule that has an overlap of too many order
+/// types.
 pub(crate) fn joining_rules(
     rt: &(impl Threads + Sync),
     alloc: Global,

@@ -50,8 +50,8 @@ fn joining_in(alloc: Global, weighed: &Weighed, lister: &Lister, portion: &Porti
     joining_overlaps(alloc, weighed, &lister.sorting, first)
 }
 
-/// So many of the first of these overlaps are worth it, of which all sorted cases are joinable: all of them, where they
-/// are many or several have many order types.
+/// The number of first overlaps that are worth it to be shared out, where all sorted cases of the first `joining` are
+/// joinable: these, if they are many or several have many order types, and else none.
 fn first_worth(weighed: &Weighed, overlaps: &[Overlap], joining: usize) -> usize
     requires { All (IsOverlapOf (rules_in weighed.now)) overlaps.now }
 {
@@ -63,8 +63,9 @@ fn first_worth(weighed: &Weighed, overlaps: &[Overlap], joining: usize) -> usize
     }
 }
 
-/// The places of those overlaps of a portion that are looked at ahead of their turn by several threads. Its first rule
-/// stands at this place. Joint cases are, where all sorted ones are joinable; a failing case is found in turn.
+/// The places of those overlaps of a portion that several threads look at ahead of their turn. The portion's first rule
+/// stands at `place`. Joint cases are looked at ahead only where all sorted ones are joinable; a failing case is found
+/// in turn.
 pub(crate) fn shared_out(
     alloc: Global,
     weighed: &Weighed,

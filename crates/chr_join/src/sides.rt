@@ -44,7 +44,7 @@ fn side(
     Ok(Derivation { start, steps })
 }
 
-/// The ends of both sides of a case, where they differ. Sides that are equal have one end, and are not rested.
+/// The ends of both sides of a case, where they differ. Sides that are equal have one end, so they are not rested.
 pub(crate) fn different_ends(
     alloc: Global,
     weighed: &Weighed,

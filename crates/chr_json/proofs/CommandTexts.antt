@@ -93,7 +93,7 @@ command_text_read (merge r os) h =
     (words_writable (merge r os) (said_data (merge r os)) (IsUtf8-are_ascii _ refl)
     (natural_writable 7 r h.1, (delta_2_writable os h.0, tt)))
 
--- ---- so a line of this text says the command
+-- ---- a line of a command's text says the command
 
 pub texts_are_said : CommandTextsAreSaid
 texts_are_said s h utf8 within =
@@ -102,7 +102,7 @@ texts_are_said s h utf8 within =
     ∙ ap value_said (json_some text (command_data s) utf8 (command_text_read s h))
     ∙ ap (λ o. ok_or o fault.Shape) (commands_back s h.0)
 
--- also where the line is known to be this text
+-- a line that is known to be a command's text says the command
 pub line_is_said : (line : List ℕ) (s : Said) → line ≡ command_text s → IsWithinTextLimits s → IsUtf8 line
     → length line ≤ MAX_LINE → line_said line ≡ Ok s
 line_is_said line s is h utf8 within =

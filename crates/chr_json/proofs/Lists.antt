@@ -6,7 +6,7 @@ use Rattle.std.proofs.Math.Seq.{take-length}
 all_after_first : (n : ℕ) (x : ℕ) (xs : List ℕ) → n ≡ length xs → take n (drop 1 (x ∷ xs)) ≡ xs
 all_after_first n x xs e = ap (λ k. take k xs) e ∙ take-length xs
 
--- a list that begins so is its first element and the rest
+-- a list that begins with x is x and the rest
 pub first_and_rest : (xs : List ℕ) (x : ℕ) → 0 < length xs → get_or xs 0 0 ≡ x → xs ≡ x
     ∷ take (length xs - 1) (drop 1 xs)
 first_and_rest [] x some first = absurd (omega arith)

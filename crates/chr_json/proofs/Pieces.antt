@@ -59,7 +59,7 @@ bare_name inner bytes named front same = ap escape (same ∙ front) ∙ bare_fro
 pub digit_bound : (v d place : ℕ) → v < 10 ^ (place + 1) → 48 ≤ d → d ≤ 57 → v * 10 + (d - 48) < 10 ^ (place + 1 + 1)
 digit_bound v d place below low high = rw pow_more (omega arith)
 
--- seventeen digits after the first leave it far below what 64 bits have room for
+-- seventeen digits after the first leave a number far below what 64 bits have room for
 pub digit_room : (v place : ℕ) → v < 10 ^ (place + 1) → place < 17 → v * 10 + 9 < 2 ^ 63
 digit_room v place below few =
     let most : 10 ^ (place + 1) ≤ 10 ^ 17 = pow-le-pow_right (omega arith) {i = place + 1} {j = 17} (omega arith) in

@@ -20,7 +20,7 @@ later_more ds d text rest next after so_far comma element =
     ∙ sym (append_assoc (later_text ds) (44 ∷ compact_text d) after)
     ∙ ap (λ l. l ++ after) (flat_map_more (λ e. 44 ∷ compact_text e) [] ds d)
 
--- the bracket after them closes the array
+-- the bracket after the elements closes the array
 pub later_close : (ds : List Data) (rest : List ℕ) → later_text ds ++ 93 ∷ rest ≡ items_text true (items_of ds) ++ rest
 later_close [] rest = refl
 later_close (d ∷ ds) rest =
@@ -28,7 +28,7 @@ later_close (d ∷ ds) rest =
     (append_assoc (compact_text d) (later_text ds) (93 ∷ rest) ∙ ap (λ l. compact_text d ++ l) (later_close ds rest)
     ∙ sym (append_assoc (compact_text d) (items_text true (items_of ds)) rest))
 
--- so it closes one that begins without the comma
+-- the bracket closes an array whose elements begin without a comma
 pub later_close_whole : (ds : List Data) (text rest : List ℕ) → 0 < length ds → 44 ∷ text ≡ later_text ds ++ 93 ∷ rest
     → text ≡ items_text false (items_of ds) ++ rest
 later_close_whole [] text rest some so_far = absurd (omega arith)

@@ -1,5 +1,5 @@
--- Values whose compact texts are read again: of arrays, of texts in UTF-8 and of whole numbers of 64 bits, so many
--- deep.
+-- Values whose compact texts are read again: of arrays, of texts in UTF-8 and of whole numbers of 64 bits, down to a
+-- depth.
 use Rattle.std.proofs.Common.{◌≡◌, ℕ, ℤ, true, false, suc, ◌≤◌, ◌<◌, ◌^◌, pos, negsuc, List, [], ◌∷◌, ◌++◌, map, Some}
 use Rattle.std.proofs.Common.{refl, arith, FitsSigned}
 use Rattle.std.specs.Int.{w64}
@@ -24,7 +24,7 @@ pub record IsWritable (k : ℕ) (d : Data) : Type 0 where
   pub shallow : depth d ≤ k
   pub utf8 : IsUtf8 (compact_text d)
 
--- its text is read as it
+-- the text of such a value is read as the value
 pub writable_read : (k : ℕ) (d : Data) → IsWritable k d → k ≤ max_depth → json_in (compact_text d) ≡ Some d
 writable_read k d h deep =
     let shallow : depth d ≤ max_depth = omega (arith, h.shallow, deep) in

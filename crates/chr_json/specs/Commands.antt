@@ -60,7 +60,7 @@ command_of_three w r d e =
     if is_string (codes "tell") w then tell_of r d e
     else if is_string (codes "lacks") w then option_and_then (lacks_of r d) (version_of e) else None
 
--- an array of these
+-- the command of an array of a word and what it takes
 abbrev pub command_from : List Data → Option Said
 command_from [] = None
 command_from (w ∷ []) = None

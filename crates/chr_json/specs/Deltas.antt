@@ -22,7 +22,7 @@ abbrev pub operation_with : Data → Data → Option NamedOperation
 operation_with id atoms =
     option_and_then (λ p. option_map (named_operation p.0 p.1) (named_atoms_of atoms)) (id_of id)
 
--- an array of the two
+-- the operation of an array of an id and an array of atoms
 abbrev pub operation_from : List Data → Option NamedOperation
 operation_from [] = None
 operation_from (id ∷ []) = None

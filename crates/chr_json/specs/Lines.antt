@@ -7,6 +7,6 @@ use Rattle.chr_json.specs.declared.limits.TheConstants.{MAX_LINE}
 abbrev pub is_blank_line : List ℕ → Bool
 is_blank_line line = list_all (λ b. b == 32 || b == 9) line
 
--- it has at most as many bytes as a line may have
+-- the line has at most as many bytes as a line may have
 abbrev pub has_line_length : List ℕ → Bool
 has_line_length line = nat_le (length line) MAX_LINE

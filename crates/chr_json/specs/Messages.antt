@@ -58,7 +58,7 @@ numbered_data o = array_data (natural_data o.id.number ∷ atoms_data o.atoms �
 abbrev pub delta_2_data : List NamedOperation → Data
 delta_2_data os = array_data (natural_data 2 ∷ grouped_data (λ o. o.id.origin) numbered_data os ∷ [])
 
--- ---- within their limits, their texts are read as they were
+-- ---- the texts of messages within their limits are read as the messages
 
 -- the origin has 32 bits and the numbers 64, and the range has an id
 pub record IsRangeWithinLimits (r : IdRange) : Type 0 where

@@ -25,7 +25,7 @@ raw_atom_view a = record { name = cow_str_bytes a.name; args = a.args.items }
 abbrev pub raw_op_view : RawOp → NamedOperation
 raw_op_view o = record { id = o.id; atoms = map raw_atom_view o.atoms.items }
 
--- it has as many atoms as an operation has
+-- the operation has as many atoms as an operation may have
 abbrev pub IsSizedOperation : RawOp → Type 0
 IsSizedOperation o = IsOperationLength (vec_len o.atoms)
 
@@ -42,7 +42,7 @@ command_view (command.Merge r operations) = merge r (map raw_op_view operations.
 abbrev pub HasIds : IdRange → Type 0
 HasIds r = r.lo ≤ r.hi
 
--- an operation that is told or merged has as many atoms as an operation has, and a range has an id
+-- an operation that is told or merged has as many atoms as an operation may have, and a range has an id
 abbrev pub IsSized : Command → Type 0
 IsSized (command.Tell r o n atoms) = IsOperationLength (vec_len atoms)
 IsSized (command.Lacks r ranges v) = All HasIds ranges.items

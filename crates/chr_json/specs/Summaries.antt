@@ -9,7 +9,7 @@ use Rattle.chr_json.specs.Values.{elements, joined, natural_of, origin_of}
 abbrev pub range_between : ℕ → ℕ → ℕ → Option IdRange
 range_between o lo hi = if nat_le lo hi then Some (record { origin = o; lo = lo; hi = hi }) else None
 
--- an array of two such numbers
+-- the range of an array of two numbers, the second no less than the first
 abbrev pub range_from : ℕ → List Data → Option IdRange
 range_from o [] = None
 range_from o (l ∷ []) = None
@@ -34,6 +34,6 @@ origin_ranges_from (o ∷ rs ∷ d ∷ ds) = None
 abbrev pub origin_ranges_of : Data → Option (List IdRange)
 origin_ranges_of d = option_and_then origin_ranges_from (elements d)
 
--- an array of such arrays: all their ranges, in the order in which they stand there
+-- an array of arrays of an origin and its ranges: all their ranges, in the order in which they stand there
 abbrev pub summary_of : Data → Option (List IdRange)
 summary_of d = option_and_then (joined origin_ranges_of) (elements d)

@@ -15,7 +15,7 @@ abbrev pub version_data : DeltaVersion → List Data
 version_data version.One = natural_data 1 ∷ []
 version_data version.Two = []
 
--- the words after the first
+-- the words of a command after its first word
 abbrev pub said_data : Said → List Data
 said_data (show r) = natural_data r ∷ []
 said_data (tell r o n ws) = natural_data r ∷ id_data o n ∷ atoms_data ws ∷ []
@@ -35,8 +35,8 @@ word_of (merge r os) = codes "merge"
 abbrev pub command_data : Said → Data
 command_data s = array_data (string (word_of s) ∷ said_data s)
 
--- the origin has 32 bits, there are as many atoms as an operation has, and their arguments fit; and so with the ranges
--- of a summary and the operations of a delta
+-- the origin of an operation has 32 bits, it has as many atoms as an operation may have, and their arguments fit;
+-- origins and numbers of the ranges of a summary fit, and each operation of a delta is within the limits
 abbrev pub IsWithinCommandLimits : Said → Type 0
 IsWithinCommandLimits (tell r o n ws) = (o < 2 ^ 32) × IsOperationLength (length ws) × AllByRecursion ArgumentsFit ws
 IsWithinCommandLimits (lacks r rs v) = AllByRecursion IsRangeWithinLimits rs

@@ -28,7 +28,7 @@ pub struct RawAtom<'a> {
     pub args: Arguments,
 }
 
-/// Whole numbers of 64 bits with a sign.
+/// An array's whole numbers of 64 bits with a sign.
 fn integers(alloc: Global, values: &[Value]) -> Result<Arguments, LineFault>
     ensures { GivesPart (λ v. v.items) result (each integer_of (map data_of values.now)) }
 {
@@ -42,7 +42,7 @@ fn integers(alloc: Global, values: &[Value]) -> Result<Arguments, LineFault>
     Ok(found)
 }
 
-/// An array of a name and arguments.
+/// The atom of an array of a name and arguments.
 fn atom(alloc: Global, value: &Value) -> Result<RawAtom<'static>, LineFault>
     ensures { GivesPart raw_atom_view result (named_atom_of (data_of value.now)) }
 {
@@ -57,7 +57,7 @@ fn atom(alloc: Global, value: &Value) -> Result<RawAtom<'static>, LineFault>
     Ok(RawAtom { name, args })
 }
 
-/// One atom after another.
+/// The atoms of these values, one after another.
 fn atom_list(alloc: Global, values: &[Value]) -> Result<Vec<RawAtom<'static>>, LineFault>
     ensures read { GivesPart (λ v. map raw_atom_view v.items) result (each named_atom_of (map data_of values.now)) }
     ensures length { IfOk result (λ v. vec_len v ≡ length values.now) }
@@ -69,7 +69,7 @@ fn atom_list(alloc: Global, values: &[Value]) -> Result<Vec<RawAtom<'static>>, L
     Ok(found)
 }
 
-/// An array of 1 to [`MAX_OPERATION`] atoms.
+/// The atoms of an array of 1 to [`MAX_OPERATION`] of them.
 pub fn atoms(alloc: Global, value: &Value) -> Result<Vec<RawAtom<'static>>, LineFault>
     ensures read { GivesPart (λ v. map raw_atom_view v.items) result (named_atoms_of (data_of value.now)) }
     ensures sized { IfOk result (λ v. IsOperationLength (vec_len v)) }

@@ -49,7 +49,7 @@ pub enum Command<'a> {
     Sync {
         /// The replica whose operations these are.
         from: u64,
-        /// The one that is to have them.
+        /// The replica that is to have them.
         to: u64,
     },
     /// Tell the ids of a replica's operations, as ranges.
@@ -144,7 +144,7 @@ fn merge(alloc: Global, replica: &Value, delta: &Value) -> Result<Command<'stati
     })
 }
 
-/// The number 1 or 2.
+/// The version of the number 1 or 2.
 fn version(value: &Value) -> Option<DeltaVersion>
     ensures { result ≡ version_of (data_of value.now) }
 {

@@ -19,7 +19,7 @@ use chr_base::limits::MAX_OPERATION;
 use std::alloc::Global;
 use std::borrow::CowStr;
 
-/// Arguments that follow a name, to the end of their array, put behind those that are there.
+/// Reads arguments that follow a name, to the end of their array, and puts them behind those in `found`.
 fn push_arguments<'a>(found: &mut Arguments, text: &'a [u8]) -> Result<&'a [u8], Stop>
     requires { AllByRecursion (FitsSigned w64) found.old.items }
     ensures text { IfOk result (λ rest. arguments_later found.old.items ++ text.now
@@ -35,8 +35,8 @@ fn push_arguments<'a>(found: &mut Arguments, text: &'a [u8]) -> Result<&'a [u8],
     after(b"]", rest)
 }
 
-/// An array of a name and arguments, put behind the atoms that are there, and its name. Most atoms of an operation have
-/// the name of the one before, which is the one that is near.
+/// Reads an array of a name and arguments, and puts the atom behind those in `found`. Tells its name as well: most
+/// atoms of an operation have the name of the atom before, so `near` is compared first.
 fn push_atom<'a>(
     found: &mut Vec<RawAtom<'a>>,
     near: &'a str,
@@ -59,13 +59,13 @@ fn push_atom<'a>(
         name: CowStr::Borrowed(name),
         args,
     })?;
-    // They are read where they stay: what was just written is slow to move.
+    // They are read into their place, since what was just written is slow to move.
     let rest = push_arguments(&mut found[last].args, rest)?;
     Ok((name, rest))
 }
 
-/// Atoms that follow the first, each after a comma, to the end of their array, put behind it. They are at most as many
-/// as an operation may have.
+/// Reads atoms that follow the first, each after a comma, to the end of their array, and puts them behind it. There are
+/// at most as many as an operation may have.
 fn push_more_atoms<'a>(
     found: &mut Vec<RawAtom<'a>>,
     name: &'a str,
@@ -90,7 +90,7 @@ fn push_more_atoms<'a>(
     after(b"]", rest)
 }
 
-/// Most atoms take at least so many bytes.
+/// The least number of bytes that most atoms take.
 const USUAL_LENGTH: usize = 8;
 
 /// An array of 1 to [`MAX_OPERATION`] atoms.

@@ -34,7 +34,7 @@ pub(crate) fn is_natural(number: u64, value: &Value) -> bool
     }
 }
 
-/// One operation after another, each with its id.
+/// The operations of these values, each with its id, one after another.
 fn operation_list(alloc: Global, values: &[Value]) -> Result<Vec<RawOp<'static>>, LineFault>
     ensures read { GivesPart (λ v. map raw_op_view v.items) result (each operation_of (map data_of values.now)) }
     ensures sized { IfOk result (λ v. All IsSizedOperation v.items) }
@@ -46,7 +46,7 @@ fn operation_list(alloc: Global, values: &[Value]) -> Result<Vec<RawOp<'static>>
     Ok(found)
 }
 
-/// Adds an array's operations of an origin.
+/// Adds the operations of an origin that an array has.
 fn add_numbered(
     alloc: Global,
     found: &mut Vec<RawOp<'static>>,
@@ -81,7 +81,7 @@ fn add_group(alloc: Global, found: &mut Vec<RawOp<'static>>, value: &Value) -> R
     add_numbered(alloc, found, origin, values)
 }
 
-/// The operations of an array of groups.
+/// The operations of an array of groups, one group after another.
 fn grouped(alloc: Global, value: &Value) -> Result<Vec<RawOp<'static>>, LineFault>
     ensures read { GivesPart (λ v. map raw_op_view v.items) result (groups_of (data_of value.now)) }
     ensures sized { IfOk result (λ v. All IsSizedOperation v.items) }

@@ -9,7 +9,7 @@ use thiserror::Error;
 /// Why a line gave no command.
 #[derive(Clone, Copy, Debug, PartialEq, Eq, Error)]
 pub enum LineFault {
-    /// No memory was left. It says nothing of the line.
+    /// No memory was left. Nothing is said of the line.
     #[error("out of memory")]
     Memory,
     /// The line is too long, or no JSON value.

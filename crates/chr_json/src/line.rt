@@ -53,8 +53,8 @@ fn command_by_value<'a>(alloc: Global, line: &[u8]) -> Result<Command<'a>, LineF
 ///
 /// # Errors
 ///
-/// `BadLine` where the line has more than [`MAX_LINE`] bytes, which needs no memory, or is no JSON value, `Shape` where
-/// its value is no command, and `Memory` where no memory was left.
+/// `BadLine` where the line has more than [`MAX_LINE`] bytes, which needs no memory, or is no JSON value; `Shape` where
+/// its value is no command; and `Memory` where no memory was left.
 pub fn read_line(alloc: Global, line: &[u8]) -> Result<Command<'_>, LineFault>
     ensures read { GivesLine result (line_said line.now) }
     ensures long { MAX_LINE < length line.now → result ≡ Err BadLine }

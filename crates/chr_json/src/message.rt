@@ -1,4 +1,4 @@
-//! That messages are read again.
+//! A law: messages are read again from their texts.
 
 ghost use Rattle.chr_json.specs.Messages.{Delta1TextsAreRead, Delta2TextsAreRead, SummaryTextsAreRead};
 

@@ -17,13 +17,13 @@ use std::alloc::Global;
 /// An operation, as a message spells it.
 #[derive(Debug, PartialEq, Drop)]
 pub struct RawOp<'a> {
-    /// Who made it, and its number there.
+    /// Who made it, and its number among the operations of its maker.
     pub id: OpId,
     /// 1 to [`MAX_OPERATION`](crate::MAX_OPERATION) atoms, in the message's order.
     pub atoms: Vec<RawAtom<'a>>,
 }
 
-/// An array of an origin and a number.
+/// The id of an array of an origin and a number.
 fn id(value: &Value) -> Option<OpId>
     ensures { option_map (λ id. (id.origin, id.number)) result ≡ id_of (data_of value.now) }
 {
@@ -40,7 +40,7 @@ fn id(value: &Value) -> Option<OpId>
 ///
 /// # Errors
 ///
-/// `Shape` where they have another shape, and `Memory` where no memory was left.
+/// `Shape` where the values have another shape, and `Memory` where no memory was left.
 pub fn operation_in(
     alloc: Global,
     name: &Value,
@@ -56,7 +56,7 @@ pub fn operation_in(
     Ok(RawOp { id, atoms })
 }
 
-/// An array of an id and atoms.
+/// The operation of an array of an id and atoms.
 pub fn operation(alloc: Global, value: &Value) -> Result<RawOp<'static>, LineFault>
     ensures read { GivesPart raw_op_view result (operation_of (data_of value.now)) }
     ensures sized { IfOk result IsSizedOperation }
@@ -67,7 +67,7 @@ pub fn operation(alloc: Global, value: &Value) -> Result<RawOp<'static>, LineFau
     operation_in(alloc, id, atoms)
 }
 
-/// An operation of an origin: an array of its number there and atoms.
+/// The operation of an origin that is an array of its number there and atoms.
 pub fn numbered_operation(
     alloc: Global,
     origin: u32,

@@ -66,7 +66,7 @@ fn with_more_digits(first: u64, text: &[u8]) -> Result<(u64, &[u8]), Stop>
     Ok((value, &[]))
 }
 
-/// So many digits after the first leave a number below 10^18, so that its size needs no look.
+/// A number of one digit and this many more is below 10^18, so it fits 64 bits without a test.
 const FREE_DIGITS: usize = 17;
 
 /// The number whose decimal digits are this one, and then those at the front.
@@ -148,8 +148,8 @@ fn name_before(text: &[u8]) -> Result<(&str, &[u8]), Stop>
     }
 }
 
-/// A text between quotation marks, without escapes. Where it is the one that is near, its bytes are compared with that
-/// and not looked at again.
+/// A text between quotation marks, without escapes. Where it is `near`, its bytes are compared with `near` and not
+/// looked at again.
 pub fn name<'a>(near: &'a str, text: &'a [u8]) -> Result<(&'a str, &'a [u8]), Stop>
     requires { escape near.now ≡ near.now }
     ensures text { IfOk result (λ r. text.now ≡ quoted r.0.now ++ r.1.now) }

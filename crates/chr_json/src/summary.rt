@@ -27,7 +27,7 @@ fn range(origin: u32, value: &Value) -> Option<IdRange>
     }
 }
 
-/// Adds an array's ranges of an origin.
+/// Adds the ranges of an origin that an array has.
 fn add_ranges(found: &mut Vec<IdRange>, origin: u32, value: &Value) -> Result<(), LineFault>
     ensures read { AddsParts result found.old.items found.new.items (ranges_of origin (data_of value.now)) }
     ensures some { OnOk result (All (λ r. r.lo ≤ r.hi) found.old.items → All (λ r. r.lo ≤ r.hi) found.new.items) }

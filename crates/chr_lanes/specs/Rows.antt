@@ -17,7 +17,7 @@ lent_columns columns = map (λ c. c.now) columns
 abbrev pub value_at : List (List ℤ) → ℕ → ℕ → ℤ
 value_at columns row column = get_or (get_or columns column []) row (pos 0)
 
--- what a test compares that value with
+-- the value with which a test compares
 abbrev pub against_at : List (List ℤ) → ℕ → Against → ℤ
 against_at columns row (Value v) = v
 against_at columns row (Column c) = value_at columns row c
@@ -32,7 +32,7 @@ all_hold columns tests row = list_all (holds columns row) tests
 abbrev pub NonePasses : List (List ℤ) → List Test → ℕ → ℕ → Type 0
 NonePasses columns tests from to = (row : ℕ) → from ≤ row → row < to → all_hold columns tests row ≡ false
 
--- the columns that a test names are among so many
+-- the column that a test names is one of the first n
 abbrev pub IsThere : ℕ → Against → Type 0
 IsThere n (Value v) = Unit {0}
 IsThere n (Column c) = c < n
@@ -41,7 +41,7 @@ pub record NamesColumns (n : ℕ) (t : Test) : Type 0 where
   pub column : t.column < n
   pub against : IsThere n t.against
 
--- Each value is one of 64 bits. The values of code are: of the elements of a slice the prover doesn't know it by
--- itself.
+-- Each value is one of 64 bits. All values of the code are, but the prover doesn't know it by itself of a slice's
+-- elements.
 abbrev pub HaveValues : List (List ℤ) → Type 0
 HaveValues columns = (column row : ℕ) → is_value (value_at columns row column) ≡ true

@@ -35,7 +35,7 @@ pub(crate) fn holds_somewhere(left: &[i64], cmp: Cmp, right: &[i64]) -> bool
     }
 }
 
-/// The same of one value in all lanes on the right.
+/// Like [`holds_somewhere`], with one value in all lanes on the right.
 pub(crate) fn holds_against(left: &[i64], cmp: Cmp, value: i64) -> bool
     requires { length left.now ≡ LANES }
     ensures { result ≡ false → (lane : ℕ) → lane < LANES → FailsAgainst left.now cmp value lane }

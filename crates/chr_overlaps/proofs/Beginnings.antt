@@ -65,7 +65,7 @@ pub guards_admitted : (r1 r2 : Rule) (u : Unified) (zs : List ℤ) → IsUnified
     → guards_hold (classes_of u) r1 r2 zs ≡ true → are_admitted (all_may_hold u.free.items u.guards.items) [] zs ≡ true
 guards_admitted r1 r2 u zs is h = admitted u.free.items u.guards.items [] zs (guards_are r1 r2 u zs is ∙ h)
 
--- so nothing that passes is lost among those that are admitted
+-- where all that passes g passes a, nothing that passes g is lost among what passes a
 pub filter_within : {A : Type 0} (g a : A → Bool) → ((x : A) → g x ≡ true → a x ≡ true) → (xs : List A)
     → filter g (filter a xs) ≡ filter g xs
 filter_within g a h [] = refl

@@ -39,7 +39,7 @@ joined rules a n m os ps from before first second = record {
       | inr e ↦ in_first o os ps (first.all o h l e)
     ]
 
--- those of all rules are all
+-- the overlaps whose first rule is any of the rules are all overlaps
 pub of_all : (rules : List Rule) (n : ℕ) (os : List Overlap) → length rules ≤ n → AreOverlapsBetween rules 0 n os
     → AreOverlaps rules os
 of_all rules n os most are = record {
@@ -49,7 +49,7 @@ of_all rules n os most are = record {
   rise = are.rise;
 }
 
--- each part is there
+-- the overlaps from each place on have a list
 pub part_there : (rules : List Rule) (a : ℕ) → (os : List Overlap) × AreOverlapsBetween rules a (length rules) os
 part_there rules a = (
   flat_map (overlaps_of_rule rules) (range_with_len a (length rules - a)),

@@ -91,7 +91,7 @@ comparisons_below r k n i cs d e less l =
     (is_bound_in (heads_of r) (get_or cs i d).right) both in
     (bound_below r k n _ l parts.0, bound_below r k n _ l parts.1)
 
--- and these are few
+-- a guard has few comparisons
 pub guard_few : (r : Rule) → length r.guard.items ≤ MAX_COMPARISONS
 guard_few r =
     let a = and_parts (is_label (option_map (λ n. n.bytes) r.name) && nat_le (length r.guard.items) MAX_COMPARISONS)

@@ -37,7 +37,7 @@ pub symbol_within : (qs : List Pattern) (p : Pattern) (e : ℕ) → HasSymbol qs
 symbol_within qs p zero h = omega arith
 symbol_within qs p (suc k) h = let l = slice_get_within qs k h.0 h.1 in omega (arith, l)
 
--- what the test says
+-- what the test of an entry says
 pub follows_means : (qs : List Pattern) (m : List ℕ) (p : Pattern) (e : ℕ) → e < length qs + 1 → may_follow qs m p e
     ≡ true → IsNew m e × HasSymbol qs p e
 follows_means qs m p zero l h = (tt, tt)
@@ -96,7 +96,7 @@ apart_more (suc l ∷ m) (suc k) a n = (
       (or_parts (nat_eq (suc k) (suc l)) (names m (suc k)) n).1,
 )
 
--- in such a list each entry is new behind those before it
+-- in a list that names no place twice, each entry is new behind those before it
 pub new_there : (m t : List ℕ) (e : ℕ) → IsInjective (m ++ e ∷ t) → IsNew m e
 new_there m t zero a = tt
 new_there [] t (suc k) a = refl

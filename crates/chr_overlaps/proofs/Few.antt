@@ -43,7 +43,7 @@ few_if false xs m l = omega arith
 abbrev entries_most : ℕ
 entries_most = MAX_HEADS + 1
 
--- those that begin alike, where so many heads have no entry yet
+-- the overlaps that begin alike are few, where the heads ps have no entry yet
 few_behind : (r s : Rule) (ps : List Pattern) (o : Overlap)
     → length (overlaps_behind r s ps o) ≤ entries_most ^ length ps
 few_behind r s [] o = few_if (matches_removed (length r.kept.items) (length s.kept.items) o.matching.items) (o ∷ []) 1
@@ -83,7 +83,7 @@ few_rules p =
     let counts = (and_parts _ (list_all is_in_range ds) ranges).0 in
     leb-true _ _ (and_parts _ _ counts).1
 
--- those of k rules
+-- the overlaps of k rules are few
 pub few_overlaps : (rules : List Rule) (a k : ℕ) → length rules ≤ MAX_RULES
     → length (flat_map (overlaps_of_rule rules) (range_with_len a k)) ≤ k * (MAX_RULES * (MAX_HEADS + 1) ^ MAX_HEADS)
 few_overlaps rules a k l = few_range (overlaps_of_rule rules) (MAX_RULES * entries_most ^ MAX_HEADS) k a k

@@ -15,7 +15,7 @@ use Rattle.chr_sorts.specs.SortedCases.{is_equation, guard_equations, equation_a
 abbrev pub left_from : ℕ → List Comparison → ℕ → List (Term × Term)
 left_from k cs i = map (equation_apart k) (guard_equations (drop i cs))
 
--- that of one comparison
+-- the equation of one comparison
 abbrev pub sides_of : ℕ → Comparison → Term × Term
 sides_of k c = (renamed_apart k c.left, renamed_apart k c.right)
 
@@ -47,7 +47,7 @@ pub one_clash : (σ : Substitution) (e : Term × Term) (es : List (Term × Term)
     (class_of σ e.1) → solve σ (e ∷ es) ≡ None
 one_clash σ e es h = ap (option_and_then (λ ρ. solve ρ es)) (sym h)
 
--- those of the first rule stay as they are
+-- the terms of the first rule stay as they are
 same_term : (t : Term) → renamed_apart 0 t ≡ t
 same_term (Variable x) = let e : 0 + x ≡ x = omega arith in ap Variable e
 same_term (Constant c) = refl

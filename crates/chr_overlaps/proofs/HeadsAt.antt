@@ -66,7 +66,7 @@ class_guard σ k fs zs [] = refl
 class_guard σ k fs zs (c ∷ cs) = λ i. compares c.cmp (int_cmp (class_value σ k fs zs c.left i)
     (class_value σ k fs zs c.right i)) && class_guard σ k fs zs cs i
 
--- and the comparisons in their classes hold where both guards do
+-- the comparisons in their classes hold just where both guards do
 pub guards_are : (r1 r2 : Rule) (u : Unified) (zs : List ℤ) → IsUnified r1 r2 u
     → guard_holds (assignment u.free.items zs) u.guards.items ≡ guards_hold (classes_of u) r1 r2 zs
 guards_are r1 r2 u zs is =

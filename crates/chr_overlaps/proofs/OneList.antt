@@ -76,7 +76,7 @@ too_many rules o r1 r2 u constants n a b are solves is more = record {
   more = subst (λ k. MoreTypesThan MAX_TYPES k constants) (sym more.0) more.1;
 }
 
--- what is too many does not hang on how it is told
+-- whether the cases are too many does not hang on how it is told
 pub not_too_many : (rules : List Rule) (o : Overlap) (r1 r2 : Rule) (u : Unified) (constants : List ℤ) (n : ℕ)
     → slice_get rules (o.first - 1) ≡ Some r1 → slice_get rules (o.second - 1) ≡ Some r2 → AreConstants rules constants
     → IsMostGeneralUnifier (classes_of u) (equations_of r1 r2 o.matching.items) → IsUnified r1 r2 u

@@ -29,7 +29,7 @@ solve-append σ (e ∷ es) fs = by (unify_terms σ (class_of σ e.0) (class_of �
 abbrev pub rest_of : ℕ → List Pattern → List ℕ → List Pattern → ℕ → List (Term × Term)
 rest_of k qs m ps i = equations k qs (drop i m) (drop i ps)
 
--- those of one matched place
+-- the equations of one matched place
 abbrev pub pairs_at : ℕ → List Pattern → List ℕ → List Pattern → ℕ → List (Term × Term)
 pairs_at k qs m ps i = zip (get_or ps i no_pattern).args.items
     (map (renamed_apart k) (get_or qs (get_or m i 0 - 1) no_pattern).args.items)

@@ -74,7 +74,7 @@ module _ (r s : Rule) where
         touching = g.touching;
       }
 
-  -- none names a place twice, where o does not
+  -- no overlap that goes on from o names a place twice, where o does not
   pub apart : (ps : List Pattern) (o x : Overlap) → IsInjective o.matching.items → In x (overlaps_behind r s ps o)
       → IsInjective x.matching.items
   apart [] o x a i =
@@ -92,7 +92,7 @@ module _ (r s : Rule) where
       let f = follows_means (heads_of s) o.matching.items p m.0 (omega (arith, b)) c.0 in
       apart ps (with_entry o m.0) x (apart_more o.matching.items m.0 a f.0) c.1
 
-  -- none is missing
+  -- no overlap is missing
   pub complete : (ps : List Pattern) (o : Overlap) (t : List ℕ) → SameSymbols (heads_of s) t ps
       → IsInjective (o.matching.items ++ t) → is_touching (with_entries o t) ≡ true
       → In (with_entries o t) (overlaps_behind r s ps o)
@@ -182,7 +182,7 @@ module _ (rules : List Rule) where
       let m = in_flat_map x (overlaps_of_pair rules i) (range_with_len i (length rules - i)) h in
       record { place = m.0; after = (range_in i (length rules - i) m.0 m.1).0; pair = in_pair i m.0 x m.2 }
 
-  -- those of k rules from the place a on
+  -- the overlaps whose first rule is one of k rules, from the place a on
   abbrev some : ℕ → ℕ → List Overlap
   some a k = flat_map (overlaps_of_rule rules) (range_with_len a k)
 

@@ -20,7 +20,7 @@ pub rules_once : (rules : List Rule) (o : Overlap) (r1 r2 s1 s2 : Rule) → AreR
     → AreRulesOf rules o s1 s2 → (r1 ≡ s1) × (r2 ≡ s2)
 rules_once rules o r1 r2 s1 s2 a b = (same_Some r1 s1 (sym a.0 ∙ b.0), same_Some r2 s2 (sym a.1 ∙ b.1))
 
--- so each overlap that is made one has its rules' heads, guards and free classes
+-- an overlap whose heads are made one has its rules' heads, guards and free classes
 pub unified_has : (rules : List Rule) (o : Overlap) (u : Unified) → IsUnifiedAt rules o u → HasUnified rules o u
 unified_has rules o u is = record { rule1 = is.rule1; rule2 = is.rule2; are_rules = is.are_rules; unified = is.unified }
 

@@ -30,7 +30,8 @@ pub record AreOverlaps (rules : List Rule) (os : List Overlap) : Type 0 where
   pub all : (o : Overlap) → IsOverlapOf rules o → In o os
   pub rise : RisesBy (λ o p. overlap_cmp o p ≡ Less) os
 
--- those of them whose first rule stands at the place a or after it, and before the place n
+-- all overlaps of these rules whose first rule stands at the place a or after it, and before the place n, each once, in
+-- order
 pub record AreOverlapsBetween (rules : List Rule) (a n : ℕ) (os : List Overlap) : Type 0 where
   pub each : (o : Overlap) → In o os → IsOverlapOf rules o × (a < o.first) × (o.first ≤ n)
   pub all : (o : Overlap) → IsOverlapOf rules o → a < o.first → o.first ≤ n → In o os

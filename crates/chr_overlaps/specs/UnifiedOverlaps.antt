@@ -20,7 +20,8 @@ pub record IsUnifiedAt (rules : List Rule) (o : Overlap) (u : Unified) : Type 0 
   pub solves : IsMostGeneralUnifier (classes_of u) (equations_of rule1 rule2 o.matching.items)
   pub unified : IsUnified rule1 rule2 u
 
--- the same of the overlap's equations with those of both guards
+-- the classes of u are the most general unifier of the overlap's equations and of those of both guards, and its heads
+-- and guards are in them
 pub record IsSortedUnifiedAt (rules : List Rule) (o : Overlap) (u : Unified) : Type 0 where
   pub rule1 : Rule
   pub rule2 : Rule
@@ -28,7 +29,7 @@ pub record IsSortedUnifiedAt (rules : List Rule) (o : Overlap) (u : Unified) : T
   pub solves : IsMostGeneralUnifier (classes_of u) (all_equations rule1 rule2 o.matching.items)
   pub unified : IsUnified rule1 rule2 u
 
--- these equations have no unifier
+-- the overlap's equations, with those of both guards, have no unifier
 pub record HasNoSortedUnifier (rules : List Rule) (o : Overlap) : Type 0 where
   pub rule1 : Rule
   pub rule2 : Rule

@@ -95,7 +95,7 @@ fn case_store(
     Bag::of(atoms)
 }
 
-/// The case at a representative, where both guards hold under it.
+/// The case at a representative. None where some guard doesn't hold there.
 fn case_at(
     alloc: Global,
     overlap: &Overlap,

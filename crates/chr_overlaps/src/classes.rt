@@ -15,7 +15,7 @@ use chr_base::term::{Comparison, Pattern, Term};
 /// The greatest number of variables of two rules.
 pub(crate) const MAX_JOINT_VARIABLES: usize = 2 * MAX_VARIABLES;
 
-/// An entry for each of them, and the one at 0.
+/// An entry for each joint variable, and one at 0.
 const TABLE_LEN: usize = MAX_JOINT_VARIABLES + 1;
 
 /// The class of each variable, by its number: the constant that the class is bound to, or its first variable.
@@ -89,7 +89,7 @@ impl Classes {
         self.terms = terms;
     }
 
-    /// Makes one class of those of two terms. False where two constants would be one.
+    /// Makes one class of those of the two terms. False where two constants would be one.
     pub(crate) fn join(&mut self, left: Term, right: Term) -> bool
         requires left { is_below (length self.old.terms.items) left ≡ true }
         requires right { is_below (length self.old.terms.items) right ≡ true }
@@ -107,7 +107,8 @@ impl Classes {
         true
     }
 
-    /// Makes one class of those of the terms at each place, where the variables of the second list are renamed apart.
+    /// Makes one class of those of the two terms at each place, where the variables of the second list are renamed
+    /// apart. False where two constants would be one.
     pub(crate) fn join_terms(&mut self, left: &[Term], shift: u8, right: &[Term]) -> bool
         requires left { are_below (length self.old.terms.items) left.now ≡ true }
         requires right { are_below (length self.old.terms.items) (map (renamed_apart shift) right.now) ≡ true }

@@ -96,7 +96,7 @@ fn are_same(left: &[Pattern], right: &mut ArrayVec<Pattern, MAX_CHANGES>) -> boo
 }
 
 /// Whether both steps of each case lead to one store, by their patterns alone: what the first rule puts in and the
-/// second takes away is what the second puts in and the first takes away. False may be answered too where they do.
+/// second takes away is what the second puts in and the first takes away. False may also be answered where they do.
 pub fn has_equal_sides(weighed: &Weighed, overlap: &Overlap, unified: &Unified) -> bool
     requires overlap { IsOverlapOf (rules_in weighed.now) overlap.now }
     requires unified { HasUnified (rules_in weighed.now) overlap.now unified.now }

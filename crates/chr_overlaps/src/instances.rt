@@ -66,7 +66,7 @@ pub(crate) fn instances(
     atoms
 }
 
-/// Whether two values compare so.
+/// Whether two values compare as the sign says.
 fn compares(left: i64, cmp: Cmp, right: i64) -> bool
     ensures { result ≡ compares cmp (int_cmp left right) }
 {

@@ -57,7 +57,7 @@ fn matches_removed(first: &Rule, second: &Rule, matching: &[u8]) -> bool
     has_greater(kept, second.kept.len()) || has_greater(removed, 0)
 }
 
-/// Adds the overlaps of two rules that begin like this one, in lexicographic order.
+/// Adds the overlaps of two rules that begin with the entries of `begun`, in lexicographic order.
 fn add_overlaps(
     first: &Rule,
     second: &Rule,
@@ -101,8 +101,8 @@ fn add_overlaps_of(rules: &[Rule], place: usize, found: &mut Vec<Overlap>) -> Re
     Ok(())
 }
 
-/// The overlaps whose first rule stands at one of these places, counted from 0, by first rule, second rule and
-/// matching. A place where no rule stands has none.
+/// The overlaps whose first rule stands at one of these places, counted from 0. They are ordered by first rule, second
+/// rule and matching. A place where no rule stands has none.
 pub fn overlaps_of(
     alloc: Global,
     weighed: &Weighed,
@@ -123,8 +123,9 @@ pub fn overlaps_of(
     Ok(found)
 }
 
-/// All overlaps of the program's rules, by first rule, second rule and matching: every way in which heads of a rule
-/// match heads of a later rule, or of its own renamed copy, of which at least one is removed.
+/// All overlaps of the program's rules: every way in which heads of a rule match heads of a later rule, or of the
+/// rule's own renamed copy, with at least one matched head that is removed. They are ordered by first rule, second rule
+/// and matching.
 pub fn overlaps(alloc: Global, weighed: &Weighed) -> Result<Vec<Overlap>, AllocError>
     ensures overlaps { IfOk result (λ os. AreOverlaps (rules_of (program_of weighed.now)) os.items) }
     ensures few { IfOk result (λ os. length os.items ≤ MAX_RULES * MAX_RULES * (MAX_HEADS + 1) ^ MAX_HEADS) }

@@ -7,7 +7,7 @@ ghost use Rattle.chr_confluence.specs.Overlaps.{variables_of};
 use chr_base::rule::Rule;
 use chr_base::term::{Pattern, Term};
 
-/// The number of variables after these terms, where so many were there before.
+/// The number of variables up to the end of these terms, where `before` were there before them.
 fn count_in_terms(before: u8, terms: &[Term]) -> u8
     requires room { before + length terms.now < 2 ^ 8 }
     requires numbered { IsSome (numbered before terms.now) }

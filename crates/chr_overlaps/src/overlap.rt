@@ -34,7 +34,7 @@ impl Overlap {
         }
     }
 
-    /// The same with one entry more.
+    /// The overlap with one entry more.
     pub(crate) fn with(&self, entry: u8) -> Overlap
         requires { length self.now.matching.items < MAX_HEADS }
         ensures { result ≡ with_entry self.now entry }

@@ -21,7 +21,7 @@ fn is_equation(cmp: Cmp) -> bool
     matches!(cmp, Cmp::Equal)
 }
 
-/// Makes both sides of each `=:=` of a rule's guard agree, where its variables are renamed apart. False where two
+/// Makes both sides of each `=:=` of a rule's guard equal, where its variables are renamed apart. False where two
 /// constants would be one.
 fn join_guard(classes: &mut Classes, rule: &Rule, shift: u8) -> bool
     requires { shift + variables_of rule.now < length classes.old.terms.items }
@@ -40,8 +40,8 @@ fn join_guard(classes: &mut Classes, rule: &Rule, shift: u8) -> bool
     true
 }
 
-/// Makes the arguments at all matched places agree, and what both guards make equal. False where two constants would be
-/// one.
+/// Makes the arguments at all matched places equal, and both sides of each `=:=` of both guards. False where two
+/// constants would be one.
 fn join_all(classes: &mut Classes, first: &Rule, second: &Rule, shift: u8, matching: &[u8]) -> bool
     requires symbols { SameSymbols (heads_of second.now) matching.now (heads_of first.now) }
     requires shift { shift ≡ variables_of first.now }
@@ -59,7 +59,7 @@ fn join_all(classes: &mut Classes, first: &Rule, second: &Rule, shift: u8, match
     join_guard(classes, second, shift)
 }
 
-/// Makes matched places agree, and what both guards make equal, where one unifier of them all exists: None where two
+/// Makes two rules' heads one at matched places, and both sides of each `=:=` of both guards equal. None where two
 /// constants would be one.
 pub(crate) fn sorted_unify(first: &Rule, second: &Rule, matching: &[u8]) -> Option<Unified>
     requires { SameSymbols (heads_of second.now) matching.now (heads_of first.now) }

@@ -28,8 +28,11 @@ pub(crate) const MAX_JOINT_COMPARISONS: usize = 2 * MAX_COMPARISONS;
 /// first variable of its class. The variables of the second rule are numbered on from those of the first.
 #[derive(Drop)]
 pub struct Unified {
+    /// The classes of the variables of both rules.
     pub(crate) classes: Classes,
+    /// The heads of the first rule.
     pub(crate) first: ArrayVec<Pattern, MAX_HEADS>,
+    /// The heads of the second rule.
     pub(crate) second: ArrayVec<Pattern, MAX_HEADS>,
     /// The comparisons of both guards, those of the first rule first.
     pub(crate) guards: ArrayVec<Comparison, MAX_JOINT_COMPARISONS>,
@@ -76,13 +79,13 @@ impl Beginnings for Unified {
 
     ghost admits = { λ u values. all_may_hold u.free.items u.guards.items values };
 
-    /// Whether no comparison of both guards fails whose classes have values.
+    /// Whether no comparison of either guard fails whose classes have values.
     fn goes_on(&self, values: &[i64]) -> bool {
         all_may_hold(&self.free, values, &self.guards)
     }
 }
 
-/// Makes the arguments at two matched places agree. False where two constants would be one.
+/// Makes the arguments at two matched places equal. False where two constants would be one.
 fn join_at(
     classes: &mut Classes,
     first: &Rule,
@@ -106,7 +109,7 @@ fn join_at(
     classes.join_terms(&left.args, shift, &right.args)
 }
 
-/// Makes the arguments at all matched places agree. False where two constants would be one.
+/// Makes the arguments at all matched places equal. False where two constants would be one.
 pub(crate) fn join_heads(
     classes: &mut Classes,
     first: &Rule,
@@ -194,7 +197,7 @@ pub(crate) fn unified_by(classes: Classes, first: &Rule, second: &Rule, shift: u
     }
 }
 
-/// Makes matched places agree, where one unifier of them all exists: None where two constants would be one.
+/// Makes two rules' heads one at matched places. None where two constants would be one.
 pub(crate) fn unify(first: &Rule, second: &Rule, matching: &[u8]) -> Option<Unified>
     requires { SameSymbols (heads_of second.now) matching.now (heads_of first.now) }
     ensures none { IfNone result (HasNoUnifier (equations_of first.now second.now matching.now)) }

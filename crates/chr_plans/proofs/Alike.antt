@@ -44,7 +44,7 @@ module _ (r : Rule) (rows : Tables) (p q : ℕ) (within : q < length (heads_of r
       ap (λ hs. head hs q) (sym e) ∙ head_value r v q ∙ ap (atom_at v) (sym same) ∙ sym (head_value r v p)
       ∙ ap (λ hs. head hs p) e
 
-  -- so the partner that sits at the one sits as well at the other
+  -- the partners with the one that sits at q put at p are partners of the atom at q
   moved : (q ≡ p → ⊥) → IsSeated r rows q heads (with_seat p (seat seats q) seats)
   moved ne = record {
     instance = seated.instance;

@@ -40,7 +40,7 @@ ready_keys r places p j n q (k ∷ ks) are all =
     let w = and_parts (is_ready (p ∷ take n places) k.source) _ all in
     (ready_at places p n k.source w.0, are.1, ready_keys r places p j n q ks are.2 w.1)
 
--- there are the indexes of look-ups that fit tables
+-- each look-up that fits the tables has an index
 pub all_indexed : (r : Rule) (rows : Tables) (lookups : List Lookup) (columns : Columns)
     → FitsTables r lookups rows columns → (j : ℕ) → j < length lookups → IsIndexed columns (slice_get lookups j)
 all_indexed r rows lookups columns fits j left =

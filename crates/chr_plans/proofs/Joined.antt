@@ -31,7 +31,7 @@ value_there v x (t ∷ ts) zero e = let f : t ≡ Variable x =
     (let g : ◌≡◌ {A = Option Term} (Some t) (Some (Variable x)) = e in cc) in ap (term_value v) f
 value_there v x (t ∷ ts) (suc n) e = value_there v x ts n e
 
--- each of these atoms has it
+-- each of these atoms has the value of the variable in the joining argument
 pub shared_value : (columns : List ℕ) (v : Valuation) (x : ℕ) (ps : List Pattern) → All (HasThere columns x) ps →
     (q : Atom)
     → 0 < count_in atom_cmp q (atoms_at v ps) → value_in columns q ≡ v x

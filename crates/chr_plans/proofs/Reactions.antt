@@ -27,7 +27,7 @@ module _ (rules : List Rule) (rows : Tables) (columns : Columns) (a : Atom) (pla
       let f = rw at at fit in
       rw (rule ∙ get_or_from_slice_get rules plan.rule f.0 r f.1) f.1
 
-  -- and the plan is one of it
+  -- the plan is one of the rule that the code reads, and fits the tables
   pub fits_here : (plan.place < length (heads_of r)) × IsPlan r plan.place (partners_of plan.lookups.items)
       × FitsTables r plan.lookups.items rows columns
   fits_here =
@@ -43,7 +43,7 @@ module _ (rules : List Rule) (rows : Tables) (columns : Columns) (a : Atom) (pla
   none_here : NoPartners r rows plan.place a → NoneBy rules rows a (slice_get plans j)
   none_here none = rw at (λ q e. subst (λ x. NoPartners x rows plan.place a) (same_Some r q (sym is_rule ∙ e)) none)
 
-  -- and by none before it
+  -- where the plan and those before it find nothing, none of the first j + 1 plans does
   pub none_more : ((k : ℕ) → k < j → NoneBy rules rows a (slice_get plans k)) → NoPartners r rows plan.place a
       → (k : ℕ) → k < j + 1 → NoneBy rules rows a (slice_get plans k)
   none_more before none k l = elim (cases_lt k j) as (λ _. NoneBy rules rows a (slice_get plans k)) [

@@ -34,7 +34,7 @@ others_differ (t ∷ ts) (x ∷ xs) false some more other = λ v e.
     let b : take (length (x ∷ xs) - 1) xs ≡ xs = take_all (length (x ∷ xs) - 1) xs (omega arith) in
     other v (ap (map (term_value v)) a ∙ ap (drop 1) e ∙ sym b)
 
--- an atom is not such a head
+-- an atom is no head whose pattern has other constants
 pub no_partners : (r : Rule) (p : ℕ) (a : Atom) (b : Bool) → OnFalse b (Differ (pattern_at r p).args.items a.args.items)
     → OnTrue (not b) ((rows : Tables) → NoPartners r rows p a)
 no_partners r p a true other = tt

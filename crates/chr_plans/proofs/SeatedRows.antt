@@ -180,7 +180,7 @@ table_gone [] t n x q e = cc
 table_gone (rows ∷ ts) zero n x q e = let more = row_gone rows n x q e in omega (arith, more)
 table_gone (rows ∷ ts) (suc t) n x q e = let more = table_gone ts t n x q e in omega (arith, more)
 
--- the others stay
+-- where one row dies, the other rows stay
 other_row : (ts : Grid) (t n t' n' : ℕ) → (t' ≡ t → n' ≡ n → ⊥)
     → rows_in (without_row ts (record { table = t; row = n })) t' n' ≡ rows_in ts t' n'
 other_row [] t n t' n' h = refl
@@ -189,7 +189,8 @@ other_row (rows ∷ ts) zero n (suc t') n' h = refl
 other_row (rows ∷ ts) (suc t) n zero n' h = refl
 other_row (rows ∷ ts) (suc t) n (suc t') n' h = other_row ts t n t' n' (λ e f. h (ap suc e) f)
 
--- rows that go, all different, take their atoms: they were within the tables, and this is what is left
+-- Rows that die, all different, take their atoms: these were within the tables, and what is left is the tables without
+-- them.
 rows_gone : (ts : Grid) (xs : List Atom) (ss : List Seat) (q : Atom) → SitIn ts xs ss
     → total_in q (without_rows ts ss) + count_in atom_cmp q xs ≡ total_in q ts
 rows_gone ts [] [] q are = omega arith

@@ -61,7 +61,7 @@ key_known r places p n q hs heads ss seats (k ∷ ks) h same are =
     let more = key_known r places p n q hs heads ss seats ks h same are.2 in
     λ i. one i ∷ more i
 
--- and the heads that are known pass the tests
+-- the heads that are known pass the tests
 pub tests_known : (r : Rule) (places : List ℕ) (p n : ℕ) (hs heads : List Atom) (ss seats : List Seat) (ts : List Test)
     → HasInstance r hs → AgreeAtKnown places p n hs ss heads seats → AreTests r places p n ts
     → list_all (passes heads) ts ≡ true
@@ -72,7 +72,7 @@ tests_known r places p n hs heads ss seats (t ∷ ts) h same are =
     let one : passes heads t ≡ true = sym (λ i. compares t.cmp (int_cmp (left i) (right i))) ∙ are.2 hs h in
     and_from (passes heads t) _ one (tests_known r places p n hs heads ss seats ts h same are.3)
 
--- and the limits allow the head at a place
+-- the limits allow the head at a place
 pub limits_known : (r : Rule) (places : List ℕ) (p n q : ℕ) (hs heads : List Atom) (ss seats : List Seat)
     (ls : List Limit)
     → HasInstance r hs → AgreeAtKnown places p n hs ss heads seats → AreLimits r places p n q ls
@@ -92,7 +92,7 @@ first_and_rest f (x ∷ xs) d l e =
     let w = and_parts (f x) _ e in
     (w.0, ap (list_all f) (take_all (length (x ∷ xs) - 1) xs (omega arith)) ∙ w.1)
 
--- and the shape of its pattern
+-- the head at a place has the shape of its pattern
 pub shape_known : (r : Rule) (v : Valuation) (q : ℕ) (hs : List Atom) → heads_at v r ≡ hs
     → has_shape (pattern_at r q) (head hs q) ≡ true
 shape_known r v q hs e =

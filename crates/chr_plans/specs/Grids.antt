@@ -26,7 +26,7 @@ contents (rows ∷ tables) = store_of (live_atoms rows) ⊕ contents tables
 abbrev pub rows_in : Grid → Tables
 rows_in tables table row = get_or (get_or tables table []) row None
 
--- the tables in which that row is dead
+-- the tables in which the row of this seat is dead
 abbrev pub without_row : Grid → Seat → Grid
 without_row tables s = set tables s.table (set (get_or tables s.table []) s.row None)
 

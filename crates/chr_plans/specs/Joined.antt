@@ -9,7 +9,7 @@ use Rattle.chr_base.specs.Rules.{heads_of}
 use Rattle.chr_base.specs.Stores.{Store, count}
 use Rattle.chr_plans.specs.Keys.{argument}
 
--- the column of a symbol, counted from 0, where each symbol has one by its number, and past the last the first
+-- the column of a symbol, counted from 0: the one at the symbol's number in the list, or 0 past its end
 abbrev pub column_in : List ℕ → SymbolId → ℕ
 column_in columns symbol = get_or columns symbol.0 0
 
@@ -17,15 +17,16 @@ column_in columns symbol = get_or columns symbol.0 0
 abbrev pub value_in : List ℕ → Atom → ℤ
 value_in columns a = argument a (column_in columns a.symbol)
 
--- the variable stands in that column of the pattern
+-- the variable stands in the joining column of the pattern's symbol
 abbrev pub HasThere : List ℕ → ℕ → Pattern → Type 0
 HasThere columns x p = slice_get p.args.items (column_in columns p.symbol) ≡ Some (Variable x)
 
--- some variable stands there in all heads of the rule
+-- some variable stands in the joining column of all heads of the rule
 abbrev pub IsJoined : List ℕ → Rule → Type 0
 IsJoined columns r = (x : ℕ) × All (HasThere columns x) (heads_of r)
 
--- and in all atoms of its body, so that a step leads from atoms of one value to atoms of that value
+-- Some variable stands in the joining column of all heads and all atoms of the body of the rule. So a step leads from
+-- atoms of one value to atoms of that value.
 abbrev pub IsLocal : List ℕ → Rule → Type 0
 IsLocal columns r = (x : ℕ) × All (HasThere columns x) (heads_of r) × All (HasThere columns x) r.body.items
 

@@ -41,7 +41,7 @@ columns_by Unordered = []
 columns_by (By column) = column ∷ []
 columns_by (ByBoth first second) = first ∷ second ∷ []
 
--- the atom is in the band, and in the span
+-- the atom is in the band
 abbrev pub IsInBand : Band → Atom → Type 0
 IsInBand b a = IsIn b.range (argument a b.column)
 

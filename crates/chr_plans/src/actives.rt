@@ -17,7 +17,7 @@ pub fn parts_rest()
     ensures { PartsRest }
 {}
 
-/// A store at rest stays so when an atom joins it with which it has no instance.
+/// A store at rest with one atom more is at rest where the atom has no instance with it.
 pub fn absorbs()
     ensures { Absorbs }
 {}
@@ -40,7 +40,7 @@ pub fn rows_are_enough()
     ensures { RowsAreEnough }
 {}
 
-/// Different rows are within the store in the rows, and leave it without just their atoms.
+/// Different rows are within the store in the rows, and where they die, just their atoms leave it.
 pub fn rows_leave()
     ensures { RowsLeave }
 {}

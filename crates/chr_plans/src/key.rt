@@ -19,9 +19,9 @@ use chr_indexes::ranges::Range;
 /// Where a value of a key comes from.
 #[derive(Clone, Copy, Debug, PartialEq, Eq)]
 pub enum Source {
-    /// The rule has this value there.
+    /// The value is a constant of the rule.
     Constant(i64),
-    /// It is this argument, counted from 0, of the head at this place.
+    /// The value is an argument, its column counted from 0, of the head at a place.
     Argument { place: usize, column: usize },
 }
 
@@ -40,7 +40,7 @@ pub struct Key {
     pub source: Source,
 }
 
-/// A comparison of two values that are known.
+/// A comparison of two values that are known before the head is looked for.
 #[derive(Clone, Copy, Debug, PartialEq, Eq)]
 pub struct Test {
     pub left: Source,
@@ -60,7 +60,7 @@ impl Default for Test {
     }
 }
 
-/// What the guard says of an argument of a head, counted from 0: that it compares so with a value that is known.
+/// What the guard says of an argument of a head, counted from 0: how it compares with a value that is known.
 #[derive(Clone, Copy, Debug, PartialEq, Eq)]
 pub struct Limit {
     pub column: usize,
@@ -83,11 +83,11 @@ impl Default for Limit {
 /// By which columns rows are found beside their key.
 #[derive(Clone, Copy, Debug, PartialEq, Eq)]
 pub enum Order {
-    /// By none.
+    /// By no column.
     Unordered,
     /// By the values in this column, counted from 0.
     By(usize),
-    /// By those in the first of these columns and those in the second.
+    /// By the values in the first of these columns, and by those in the second.
     ByBoth(usize, usize),
 }
 
@@ -166,7 +166,7 @@ pub fn pass(heads: &[Atom], tests: &ArrayVec<Test, MAX_COMPARISONS>) -> bool
     tests.iter().all(|test| passes(heads, test))
 }
 
-/// Those values of a range that compare so with this one, and maybe others.
+/// A range with all values of `range` that compare by `cmp` with the value, and maybe others.
 fn narrowed(range: Range, cmp: Cmp, value: i64) -> Range
     ensures { (x : ℤ) → IsIn range x → compares cmp (int_cmp x value) ≡ true → IsIn result x }
 {
@@ -212,7 +212,7 @@ fn is_order(cmp: Cmp) -> bool {
     }
 }
 
-/// The first column other than this one that is limited by an order, or by none.
+/// The first column, other than `other`, with a limit by an order, or by an inequality where `by_order` is false.
 fn column_limited(limits: &[Limit], by_order: bool, other: Option<usize>) -> Option<usize> {
     for limit in limits {
         let is_other = match other {
@@ -226,7 +226,7 @@ fn column_limited(limits: &[Limit], by_order: bool, other: Option<usize>) -> Opt
     None
 }
 
-/// The first column other than this one that is limited, by an order where there is one so limited.
+/// The first column, other than `other`, with a limit; by an order, where there is such a limit.
 fn column_beside(limits: &[Limit], other: Option<usize>) -> Option<usize> {
     match column_limited(limits, true, other) {
         Some(column) => Some(column),
@@ -234,7 +234,7 @@ fn column_beside(limits: &[Limit], other: Option<usize>) -> Option<usize> {
     }
 }
 
-/// The columns by which the limits leave most rows behind: those of orders come before those of inequalities.
+/// The columns by which the limits leave out most rows: those of orders come before those of inequalities.
 pub fn order_of(limits: &[Limit]) -> Order {
     let Some(first) = column_beside(limits, None) else {
         return Order::Unordered;
@@ -275,7 +275,8 @@ fn limited_span(heads: &[Atom], order: Order, limits: &[Limit]) -> Span
     }
 }
 
-/// The span becomes such a one, sooner where there is no order, as in most look-ups.
+/// The span becomes one with all atoms that these limits allow under these heads. Quick where there is no order, as in
+/// most look-ups.
 pub fn read_span(
     heads: &[Atom],
     order: Order,

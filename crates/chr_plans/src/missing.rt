@@ -42,8 +42,8 @@ fn are_ready(keys: &[Key], active: usize, found: &[Lookup]) -> bool
     keys.iter().all(|key| is_ready(key.source, active, found))
 }
 
-/// Whether the partner of the last of these look-ups is the first with which the values of a key are known; where there
-/// is none, the active atom.
+/// Whether the partner of the last of these look-ups is the first with which all values of a key are known; where there
+/// are no look-ups, whether the active atom alone gives them.
 fn become_ready(keys: &[Key], active: usize, found: &[Lookup]) -> bool
     ensures { OnTrue result (are_ready (active ∷ looked_in found.now) keys.now ≡ true) }
 {
@@ -79,8 +79,8 @@ fn finds_none<R: Rows>(rows: &mut R, lookup: &Lookup, heads: &[Atom]) -> bool
     newest_from(rows, lookup, &key, &whole_span(), None).is_none()
 }
 
-/// Whether a look-up after the first ones, whose key is known from the active atom and their partners, finds no row.
-/// Then no row helps the look-up that is next. A look-up is asked once its key is known, and no more further on.
+/// Whether a later look-up, whose key is known from the active atom and the partners of the first `done` look-ups,
+/// finds no row. Then no row helps the look-up that is next. A look-up is asked just once, as soon as its key is known.
 pub(crate) fn is_hopeless<R: Rows>(
     rows: &mut R,
     active: usize,

@@ -6,19 +6,23 @@ use crate::key::{Key, Limit, Order, Test};
 use arrayvec::ArrayVec;
 use chr_base::limits::{MAX_ARITY, MAX_COMPARISONS, MAX_HEADS};
 
-/// A partner: its head place, counted from 0, what is known of its arguments when it is looked for, and the tests that
-/// the heads before it must pass; where they fail one there is no need to look for it. Where the key alone would leave
-/// many to look at, there are limits of its arguments as well, and an order by which these leave rows behind.
+/// A partner, and how it is looked for. Where the key alone would leave many rows to look at, the limits leave some of
+/// them out.
 #[derive(Debug, Default, Drop)]
 pub struct Partner {
+    /// Its head place, counted from 0.
     pub place: usize,
+    /// The arguments whose values are known when it is looked for, with the sources of the values.
     pub key: ArrayVec<Key, MAX_ARITY>,
+    /// What the heads before it must pass. Where they fail one test, the partner need not be looked for.
     pub tests: ArrayVec<Test, MAX_COMPARISONS>,
+    /// What the guard says of further arguments.
     pub limits: ArrayVec<Limit, MAX_COMPARISONS>,
+    /// The columns by which the limits leave rows out.
     pub order: Order,
 }
 
-/// The same items.
+/// A copy of the items.
 fn copy_of<T: Copy + Default, const CAP: usize>(items: &ArrayVec<T, CAP>) -> ArrayVec<T, CAP>
     ensures { result.items ≡ items.now.items }
 {
@@ -55,7 +59,7 @@ impl Partner {
     }
 }
 
-/// The look-up of a partner: by which index of which table.
+/// The look-up of a partner, by an index of a table.
 #[derive(Debug, Default, Drop)]
 pub struct Lookup {
     pub partner: Partner,
@@ -63,12 +67,15 @@ pub struct Lookup {
     pub index: usize,
 }
 
-/// The plan of an occurrence: a rule, by its number from 0, a head place of it, and the look-ups of the partners in
-/// order. Where the head there has constants an atom without them has none, and nothing is looked up for it.
+/// The plan of an occurrence: how the partners of an atom are found that is the head of a rule at a place.
 #[derive(Debug, Default, Drop)]
 pub struct Plan {
+    /// The rule's number, from 0.
     pub rule: usize,
+    /// The head place of the active atom, counted from 0.
     pub place: usize,
+    /// Whether the head at that place has constants. For an atom with other values nothing is looked up.
     pub has_constants: bool,
+    /// The look-ups of the partners, in order.
     pub lookups: ArrayVec<Lookup, MAX_HEADS>,
 }

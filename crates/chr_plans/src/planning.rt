@@ -15,7 +15,7 @@ use chr_base::limits::{MAX_ARITY, MAX_COMPARISONS, MAX_HEADS};
 use chr_base::rule::Rule;
 use chr_base::term::{Cmp, Comparison, Pattern, Term};
 
-/// Whether a place is one of these.
+/// Whether a place is one of the known ones.
 fn is_in(place: usize, known: &[usize]) -> bool
     ensures { result ≡ is_in place known.now }
 {
@@ -296,11 +296,12 @@ fn is_in_column(source: Source, column: usize) -> bool {
     matches!(source, Source::Argument { column: other, .. } if other == column)
 }
 
-/// Whether of all atoms with one key one rests at most: the rule has two heads for the same atoms, and its whole guard
-/// is a `=<` or `>=` of the arguments in one column. Of two such atoms either may then be the first head, or the other.
+/// Whether at most one of all atoms with one key rests. That is seen where the rule has two heads for the same atoms,
+/// and its whole guard is a `=<` or `>=` of the arguments in one column: of two such atoms one can be the first head,
+/// and the other the second.
 ///
-/// Under `<` and `>` atoms that are equal there rest side by side, and so do atoms of two symbols under any sign, and
-/// those of three heads, or that a further comparison keeps apart.
+/// In other cases more can rest: under `<` and `>` those that are equal in the column; under any sign atoms of two
+/// symbols, those of three heads, and those that a further comparison keeps apart.
 fn leaves_one(
     rule: &Rule,
     known: &[usize],
@@ -325,7 +326,7 @@ fn leaves_one(
             .all(|part| is_in_column(part.source, part.column))
 }
 
-/// The limits of the head at a place with this key; none, where the key finds few rows at rest.
+/// The limits of the head at a place with this key; none, where the key alone finds few rows at rest.
 fn limits_at(
     rule: &Rule,
     known: &[usize],
@@ -344,7 +345,7 @@ fn limits_at(
     limits
 }
 
-/// The one with the longer key, the first where both are as long.
+/// The partner with the longer key, `best` where both are as long.
 fn longer(best: Option<Partner>, next: Partner) -> Partner
     ensures { result ≡ longer best next }
 {
@@ -388,10 +389,10 @@ fn next_partner(rule: &Rule, known: &[usize]) -> Option<Partner>
     best
 }
 
-/// The plan of an occurrence: partners in the order in which they are to be looked for, with their keys. Next comes
-/// always a partner of which as many arguments are known as of any other that is left: constants, variables that stand
-/// in the active atom or in a partner before, and what the guard says is equal to such a one. Other comparisons limit
-/// it further, where its key alone may find many atoms that rest.
+/// The plan of an occurrence: the partners in the order in which they are looked for, with their keys. The next partner
+/// is always one of which most arguments are known: constants, variables that stand in the active atom or in a partner
+/// before, and what the guard says is equal to one of these. Other comparisons limit the partner further, where its key
+/// alone may find many atoms at rest.
 // Not put into its caller, whose frame would hold the room that this one takes.
 #[inline(never)]
 pub fn plan_of(rule: &Rule, place: usize) -> ArrayVec<Partner, MAX_HEADS>

@@ -11,7 +11,7 @@ use chr_base::atom::Atom;
 use chr_base::limits::MAX_HEADS;
 use chr_base::rule::{Rule, Values};
 
-/// Where a search for partners stands: at the plan with this number, and this row of its first partner.
+/// Where a search for partners stands: at a plan, by its number, and at a row of the plan's first partner.
 #[derive(Clone, Copy, Debug, PartialEq, Eq)]
 pub struct Standing {
     pub plan: usize,
@@ -39,7 +39,7 @@ fn row_in(from: Option<Standing>, plan: usize) -> Option<usize>
     }
 }
 
-/// The row of the first partner of a plan by these seats, 0 where it has none.
+/// The row of the plan's first partner by these seats, 0 where the plan has no partners.
 fn first_row(plan: &Plan, seats: &[Seat]) -> usize
     ensures { result ≡ first_row (Some plan.now) seats.now }
 {

@@ -50,7 +50,7 @@ pub trait Rows {
             HasKey (columns self.old table index) key.now (rows self.old table other) →
             ¬ (LiesIn span.now (rows self.old table other))) };
 
-    /// The next one below this row.
+    /// The newest row that a look-up of this key and span meets below `row`.
     fn next(
         &mut self,
         table: usize,
@@ -72,8 +72,8 @@ pub trait Rows {
             HasKey (columns self.old table index) key.now (rows self.old table other) →
             ¬ (LiesIn span.now (rows self.old table other))) };
 
-    /// The newest row that a look-up of this key and span meets at this row or below it. The row itself may be dead, or
-    /// past the last.
+    /// The newest row that a look-up of this key and span meets at `row` or below it. The row may be dead, or past the
+    /// last.
     fn at_or_below(
         &mut self,
         table: usize,
@@ -95,8 +95,8 @@ pub trait Rows {
             HasKey (columns self.old table index) key.now (rows self.old table other) →
             ¬ (LiesIn span.now (rows self.old table other))) };
 
-    /// The given atom becomes that of a live row. It is made where it stays, since an atom that was just made is slow
-    /// to move.
+    /// `atom` becomes that of a live row. It is written where it stays, since an atom that was just made is slow to
+    /// move.
     fn read(&self, table: usize, row: usize, atom: &mut Atom)
         requires { IsTrue (is_some (rows self.now table row)) }
         ensures { rows self.now table row ≡ Some atom.new };

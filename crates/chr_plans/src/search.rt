@@ -33,8 +33,8 @@ fn is_taken(lookups: &[Lookup], seats: &[Seat], row: Seat) -> bool
     false
 }
 
-/// The newest row that a look-up meets; where there is a row to begin at, the newest at it or below it. A call of its
-/// own was no slower than what it calls put into both of its callers, and is shorter.
+/// The newest row that a look-up meets, at or below `from` where that is a row. `inline(never)`: in both of its callers
+/// it would be no faster.
 #[inline(never)]
 pub(crate) fn newest_from<R: Rows>(
     rows: &mut R,
@@ -63,8 +63,8 @@ pub(crate) fn newest_from<R: Rows>(
     }
 }
 
-/// Goes on from the active atom and the partners of the first look-ups to an instance. The next look-up begins at the
-/// row `from`, where there is one: no instance has its partner in a row above.
+/// Goes on to an instance from the active atom and the partners of the first `done` look-ups. The next look-up begins
+/// at the row `from`, where there is one: in no instance its partner sits in a row above.
 fn complete<R: Rows>(
     rows: &mut R,
     rule: &Rule,
@@ -146,7 +146,7 @@ fn complete<R: Rows>(
     false
 }
 
-/// Makes a list this long. What stays is the same, what is new is blank.
+/// Makes the list `count` items long. Items that are there stay, and new ones are blank.
 fn fit<T: Default + Drop, const CAP: usize>(items: &mut ArrayVec<T, CAP>, count: usize)
     requires { count ≤ CAP }
     ensures { length items.new.items ≡ count }
@@ -157,8 +157,8 @@ fn fit<T: Default + Drop, const CAP: usize>(items: &mut ArrayVec<T, CAP>, count:
     }
 }
 
-/// As many heads and rows as the rule has head places, with the active atom at its place. At the other places is
-/// anything: partners are put there before they are read.
+/// Makes room for as many heads and seats as the rule has head places, and puts the active atom at its place. The other
+/// places have anything: partners are put there before they are read.
 fn start(
     rule: &Rule,
     place: usize,

@@ -11,7 +11,7 @@ mod traits;
 mod two_pools;
 mod verdicts;
 
-/// Adds one where something came.
+/// Adds one to a count, where what is counted came.
 fn count(tally: &mut usize, came: bool) {
     *tally = tally.saturating_add(usize::from(came));
 }

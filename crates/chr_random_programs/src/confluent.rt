@@ -3,12 +3,11 @@
 //! A rule of theirs is of one of two kinds, and no two rules remove atoms of one symbol.
 //!
 //! - **Exchange.** Its removed heads all have the same variables and no symbol twice, but for heads that are repeated,
-//!   and its body has no other variables. So an atom that it removes tells all that it removes with it, and what it
-//!   puts there. What it keeps, no rule removes.
-//! - **Ranking.** It removes an atom that so many others of the same symbol come before, by `<` or `>`, or by `=<`,
-//! `>=`
-//!   or `=:=` where all other arguments are equal. Where they do, so many still come before it after another such atom
-//!   has left.
+//!   and its body has no other variables. So an atom that it removes tells which others it removes, and what it puts
+//!   there. What it keeps, no rule removes.
+//! - **Ranking.** It removes an atom that some number of others of the same symbol come before: by `<` or `>`, or by
+//!   `=<`, `>=` or `=:=` where all other arguments are equal. After another such atom has left, as many still come
+//!   before it.
 //!
 //! Two steps at one store remove the same atoms for the same body, or each can still be taken after the other.
 ghost use Rattle.std.specs.Prelude.{◌<◌, ◌≤◌};
@@ -17,7 +16,7 @@ use crate::small::constants;
 use chr_testing::random::Random;
 use std::alloc::{AllocError, Global};
 
-/// The number of symbols that rules remove. Those from here on are kept alone.
+/// The number of symbols that rules remove. The symbols behind them are only kept.
 const REMOVED: usize = 12;
 
 /// The number of symbols.
@@ -57,7 +56,7 @@ fn arity(number: usize) -> usize {
     symbol(number).1
 }
 
-/// The variables that stand in each removed head of an exchange are the first of these.
+/// The variables of exchanges: the first of them stand in each removed head.
 fn variable(number: usize) -> &'static str {
     match number {
         0 => "X",
@@ -76,7 +75,7 @@ struct Stock {
 }
 
 impl Stock {
-    /// One of those with so many arguments at least.
+    /// A symbol of at least `least` arguments that no rule removes yet, which one does then.
     fn take(&mut self, random: &mut Random, least: usize) -> Option<usize> {
         let start = random.below(REMOVED);
         for offset in 0..REMOVED {
@@ -90,8 +89,7 @@ impl Stock {
     }
 }
 
-/// The variables that stand in an exchange, so many of the first ones and perhaps that of kept heads, and some
-/// constants.
+/// The terms of an exchange: the first of the variables, perhaps that of kept heads, and some constants.
 #[derive(Clone, Copy)]
 struct Terms {
     variables: usize,
@@ -109,7 +107,7 @@ impl Terms {
         }
     }
 
-    /// The same, or the variable of kept heads.
+    /// Like [`Terms::pick`], or the variable of kept heads.
     fn pick_kept(&self, random: &mut Random) -> &'static str {
         if self.has_kept && random.below(3) == 0 {
             KEPT_VARIABLE
@@ -153,8 +151,8 @@ fn push_removed(
     push_mark(text, arity, arity)
 }
 
-/// So many heads that are removed, of different symbols, or the last one again where there are no more such symbols,
-/// and at times without need.
+/// `count` removed heads, of different symbols. The last head comes again where there are no more such symbols, and at
+/// times without need.
 fn push_all_removed(
     text: &mut String,
     random: &mut Random,
@@ -179,7 +177,7 @@ fn push_all_removed(
     Ok(())
 }
 
-/// So many heads that are kept.
+/// `count` kept heads.
 fn push_all_kept(
     text: &mut String,
     random: &mut Random,
@@ -215,7 +213,7 @@ fn push_guard(text: &mut String, random: &mut Random, terms: &Terms) -> Result<(
     Ok(())
 }
 
-/// Atoms of any symbols, fewer than are removed, or as many.
+/// Atoms of any symbols, at most as many as are removed.
 fn push_body(
     text: &mut String,
     random: &mut Random,
@@ -275,7 +273,7 @@ fn push_exchange(
 /// What stands in a column of all heads of a ranking.
 #[derive(Clone, Copy)]
 enum Role {
-    /// The same in each head.
+    /// One term in all heads.
     Same(&'static str),
     /// A variable of its own in each head, named by a letter and the place.
     Own(&'static str),
@@ -288,7 +286,7 @@ struct Ranks {
     roles: [Role; MAX_COLUMNS],
 }
 
-/// What stands in a column beside the one of the ranks.
+/// What stands in a column other than the one of the ranks.
 fn pick_role(
     random: &mut Random,
     is_strict: bool,
@@ -364,7 +362,7 @@ fn push_order(text: &mut String, order: &str, kept: usize) -> Result<(), AllocEr
     Ok(())
 }
 
-/// An atom is removed where so many others come before it.
+/// Adds a rule that removes an atom where some others, of a number at random, come before it.
 fn push_ranking(
     text: &mut String,
     random: &mut Random,

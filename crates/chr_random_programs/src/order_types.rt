@@ -54,7 +54,7 @@ pub fn constants(alloc: Global, rules: &[Rule]) -> Result<Vec<i64>, AllocError> 
     Ok(constants)
 }
 
-/// Adds the values that lie so far above a constant.
+/// Adds the values that lie `distance` above a constant.
 fn push_above(values: &mut Vec<i64>, constants: &[i64], distance: i64) -> Result<(), AllocError> {
     for constant in constants {
         push_new(values, constant.saturating_add(distance))?;
@@ -62,10 +62,11 @@ fn push_above(values: &mut Vec<i64>, constants: &[i64], distance: i64) -> Result
     Ok(())
 }
 
-/// Values, rising, by which so many variables show each order type that any 64-bit values show: from each constant so
-/// many up, and from the least one so many down, as far as there are values. Blocks of equal variables that lie above a
-/// constant and below the next, if there is one, fit right above it wherever they fit at all, those below the least
-/// constant right below it, and there are no more blocks than variables. Without constants they fit from 0 on.
+/// Values, rising, by which this many variables show each order type that any 64-bit values show: from each constant
+/// `variables` values up, and from the least one `variables` values down, as far as there are values. Why they are
+/// enough: blocks of equal variables that lie above a constant, and below the next, fit right above it wherever they
+/// fit at all, and those below the least constant right below it. There are no more blocks than variables. Without
+/// constants they fit from 0 on.
 pub fn values(alloc: Global, constants: &[i64], variables: i64) -> Result<Vec<i64>, AllocError> {
     let mut values = Vec::new(alloc);
     let least = constants.first().copied();

@@ -36,8 +36,8 @@ fn symbols(random: &mut Random) -> [Symbol; 3] {
     }
 }
 
-/// Between 0 and 1 lies no whole number and between 1 and 3 one; above the greatest value and below the least lies
-/// none.
+/// Constants with few whole numbers about them: between 0 and 1 lies none and between 1 and 3 one; above the greatest
+/// value and below the least lies none.
 pub fn constants(random: &mut Random) -> [&'static str; 3] {
     match random.below(6) {
         0 | 1 => ["0", "1", "3"],

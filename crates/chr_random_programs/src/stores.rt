@@ -43,7 +43,7 @@ pub fn add_atoms(store: &mut Bag, random: &mut Random, values: &[i64]) -> Result
     Ok(())
 }
 
-/// Values in and around the constants of rules, up to so far from them.
+/// Values in and around the constants of rules, up to `reach` from them.
 pub fn values_of_rules(alloc: Global, rules: &[Rule], reach: i64) -> Result<Vec<i64>, AllocError> {
     values(alloc, &constants(alloc, rules)?, reach)
 }
@@ -77,7 +77,7 @@ fn add_heads(
     Ok(())
 }
 
-/// So many times the heads of some rule, and some atoms more.
+/// The heads of rules by some of the values, `times` times, and some more atoms.
 pub fn random_store(
     alloc: Global,
     random: &mut Random,
@@ -106,7 +106,7 @@ pub fn all_instances(
     Ok(all)
 }
 
-/// The heads of some of these instances, on which rules fire, and some atoms more.
+/// The heads of some of these instances, on which rules fire, and some more atoms.
 pub fn store_of_instances(
     alloc: Global,
     random: &mut Random,

@@ -53,7 +53,7 @@ fn pick_palette(random: &mut Random) -> Palette {
     }
 }
 
-/// The same with other variables, mostly the first ones, which are then likely to stand in some head.
+/// A palette with other variables, mostly the first ones, which are then likely to stand in some head.
 fn with_variables(random: &mut Random, palette: &Palette) -> Palette {
     Palette {
         symbols: palette.symbols,

@@ -1,4 +1,4 @@
--- One clause after another.
+-- Clauses that are read one after another.
 use Rattle.std.proofs.Common.{◌≡◌, ℕ, ◌+◌, List, ◌∷◌, Ok, Err, sym, ap, ◌∙◌}
 use Rattle.chr_syntax.specs.Bytes.{pieces}
 use Rattle.chr_syntax.proofs.Texts.{some_piece}

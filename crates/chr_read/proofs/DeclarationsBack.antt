@@ -42,7 +42,7 @@ use Rattle.chr_syntax.specs.Lexemes.{IsWord}
 abbrev pub state : List Declaration → List Parts → List ℕ → Progress
 state ds rs ws = record { meaning = record { declarations = ds; rules = rs }; weighed = ws }
 
--- a test that doesn't pass names no fault
+-- where the first test of a list doesn't pass, its fault is none, and the other tests tell
 pub pass : (b : Bool) (n : Fault) (rest : Option Fault) → b ≡ false → rest ≡ None → cond b (Some n) rest ≡ None
 pass true n rest h g = absurd (false≢true (sym h))
 pass false n rest h g = g
@@ -148,7 +148,7 @@ other_symbol a b l m h = by (is_same_symbol (written_symbol a) (written_symbol b
         (sym (arity_back a.arity l) ∙ ap small digits ∙ arity_back b.arity m) in
         absurd (false≢true (sym h ∙ and_from (bytes_eq a.name b.name) _ p.0 (eq-eqb a.arity b.arity arity)))
 
--- those that came are none of these
+-- none of the declarations ds has the symbol of one of es
 abbrev AreApart : List Declaration → List Declaration → Type 0
 AreApart [] ds = Unit {0}
 AreApart (e ∷ es) ds = (list_any (declares e.name e.arity) ds ≡ false) × (e.arity ≤ MAX_ARITY) × AreApart es ds
@@ -242,7 +242,7 @@ default_is w h =
     let first = eqb-true w.first 1 p.0 in let second = eqb-true w.second 0 p.1 in
     λ i. record { first = first i; second = second i }
 
--- the places that have had a weight come before these
+-- each place that has had a weight is less than n
 abbrev AreBefore : List ℕ → ℕ → Type 0
 AreBefore ws n = (i : ℕ) → n ≤ i → list_any (nat_eq i) ws ≡ false
 

@@ -36,12 +36,12 @@ clauses_append [] (f ∷ fs) ds gs h g = absurd h
 clauses_append (c ∷ cs) [] ds gs h g = absurd h
 clauses_append (c ∷ cs) (f ∷ fs) ds gs h g = (h.0, h.1, clauses_append cs fs ds gs h.2 g)
 
--- what these forms make, one after another
+-- what the clauses of these forms make, one after another
 abbrev pub after : Progress → List Form → Progress
 after q [] = q
 after q (f ∷ fs) = after (with_form q f) fs
 
--- none of them has a fault after those before it
+-- none of the forms has a fault, after what those before it made
 abbrev pub AreFaultless : Progress → List Form → Type 0
 AreFaultless q [] = Unit {0}
 AreFaultless q (f ∷ fs) = (fault_in q f ≡ None) × AreFaultless (with_form q f) fs

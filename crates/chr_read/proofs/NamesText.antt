@@ -53,7 +53,7 @@ pub back : {A : Type 0} (P : A → Type 0) (xs ys : List A) → AllByRecursion P
 back P [] ys h = h
 back P (x ∷ xs) ys h = back P xs ys h.1
 
--- ---- where each word is P, so is each name of a form
+-- ---- where each word is P, each name of a form is P
 
 module _ (P : List ℕ → Type 0) (good : (w : List ℕ) → IsWord is_lower w → P w) where
   abbrev IsTextToken : Tok → Type 0

@@ -60,7 +60,7 @@ bound_is_met r w h =
     by true e named g = stays_heads w (after_heads [] r.kept) r.removed (met_heads w [] r.kept named e)
     by false e named g = met_heads w (after_heads [] r.kept) r.removed named g
 
--- ---- its name is one
+-- ---- the name of the rule is a name of the grammar
 
 pub label_is : (r : Rule) → some_part_over r ≡ false → has_names (rule r) ≡ true → is_label r.label ≡ true
 label_is r over named =
@@ -211,7 +211,7 @@ module _ (ds : List Declaration) (r : Rule) where
   resolved_in_bounds over named = let few = and_parts _ _ (few_items over) in
       and_from _ _ (and_from _ _ (and_from _ _ (label_is r over named) few.0) few.1) valued
 
--- ---- its atoms are declared
+-- ---- the atoms of the rule are declared
 
 declared_pattern : (ds : List Declaration) (a : Atom) (ts : List base.Term) → length ts ≡ length a.args
     → is_undeclared ds a ≡ false → is_declared ds (pattern ds a ts) ≡ true

@@ -339,7 +339,7 @@ module _ (ds : List Declaration) (r : base_rule.Rule) (u : are_distinct ds ≡ t
       (pass (list_any (is_unbound w) (right_terms w)) _ _ (sym (unbound_is w) ∙ not_unbound)
       (pass (list_any is_outside (terms_in w)) _ _ (sym (outside_is w) ∙ not_outside) refl)))
 
-  -- ---- it is resolved to the rule
+  -- ---- what is written for a rule is resolved to the rule
 
   rule_back : resolved ds w ≡ parts_of r
   rule_back =
@@ -392,7 +392,7 @@ module _ (ds : List Declaration) (r : base_rule.Rule) (u : are_distinct ds ≡ t
           → list_all is_valued (terms_of ps) ≡ true → AllByRecursion (GoodAtom ds n) ps
       good_at n ps h e v = fewer n ps h (bounds 0 n (terms_of ps) e v).good
 
-  -- ---- and it is written
+  -- ---- what is written for a rule is a form
 
   rule_form : IsForm (rule w)
   rule_form = (

@@ -211,7 +211,7 @@ bounds m n (Variable x ∷ ts) h v = by (nat_eq x (m + 1)) (nat_lt 0 x && nat_le
         record { least = l; most = omega (arith, k); good = ((some, omega (arith, below, l)), b.good) }
     by false false e g h more = absurd (none-some n h)
 
--- a variable that occurs is one of them
+-- a variable that occurs in good terms is one of the first n
 occurring : (n x : ℕ) (ts : List base.Term) → AllByRecursion (Good n) ts → list_any (rules.is_variable x) ts ≡ true
     → Good n (Variable x)
 occurring n x [] h g = absurd (false≢true g)

@@ -62,7 +62,7 @@ pieces_mean : (k : ℕ) (q : Progress) (c : List ℕ) (cs : Pieces) → PiecesMe
 pieces_mean k q c [] = at_end k q c (rest_read q c) (rest_means q c)
 pieces_mean k q c (d ∷ ds) = in_front k q c d ds (clause_read q c) (clause_means q c) (λ r. pieces_mean (k + 1) r d ds)
 
--- ---- what is so is read
+-- ---- a program text is read as a program, and a refused text is refused
 
 read_good : (k : ℕ) (q : Progress) (cs : Pieces) (rest : List ℕ) (r : Progress) → Makes q cs r
     → ((n : Fault) → ¬ (HasRestFault rest n))

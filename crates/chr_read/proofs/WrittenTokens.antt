@@ -57,11 +57,11 @@ pub record IsParted (rest : List ℕ) : Type 0 where
   pub word : prefix_len is_word_byte rest ≡ 0
   pub digit : prefix_len is_digit rest ≡ 0
 
--- the bytes are these tokens, whatever follows that parts it from them
+-- the bytes are read as these tokens before any rest that is parted from them
 abbrev pub Reads : List ℕ → List Tok → Type 0
 Reads w ts = (rest : List ℕ) → IsParted rest → tokens_of (w ++ rest) ≡ onto ts (tokens_of rest)
 
--- the same where a space at the end parts it
+-- the bytes are read as these tokens before any rest, since they end in what parts them from it
 abbrev pub AlwaysReads : List ℕ → List Tok → Type 0
 AlwaysReads w ts = (rest : List ℕ) → tokens_of (w ++ rest) ≡ onto ts (tokens_of rest)
 

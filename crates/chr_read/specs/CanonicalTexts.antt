@@ -95,7 +95,7 @@ weight_clause d =
 abbrev pub is_default : Weight → Bool
 is_default w = nat_eq w.first 1 && nat_eq w.second 0
 
--- one for each symbol whose weight isn't the default
+-- a clause for each symbol whose weight isn't the default
 abbrev pub weight_clauses : List Declaration → List (List ℕ)
 weight_clauses [] = []
 weight_clauses (d ∷ ds) = if is_default d.weight then weight_clauses ds else weight_clause d ∷ weight_clauses ds

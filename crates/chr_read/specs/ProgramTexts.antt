@@ -31,7 +31,7 @@ HasRestFault c fault.BadByte = is_text c ≡ false
 HasRestFault c fault.Unended = list_all is_layout c ≡ false
 HasRestFault c n = ⊥
 
--- of these faults, the one with the least number
+-- n is a fault for which Has holds, and the one with the least number
 abbrev pub IsLeast : (Fault → Type 0) → Fault → Type 0
 IsLeast Has n = Has n × ((m : Fault) → Has m → number_of_fault n ≤ number_of_fault m)
 
@@ -51,7 +51,7 @@ IsProgramText text m = IsShort text × (cs : List (List ℕ)) × (rest : List �
     × (slice_split is_stop (without_comments text) ≡ cs ++ rest ∷ []) × Makes nothing cs q
     × ((n : Fault) → ¬ (HasRestFault rest n)) × (m ≡ q.meaning)
 
--- the least fault of a clause, or of the rest where nothing stands after it
+-- the least fault of a clause, or of the rest where no clause follows
 abbrev pub IsLeastAt : List (List ℕ) → Progress → List ℕ → Fault → Type 0
 IsLeastAt [] q c n = IsLeast (HasRestFault c) n
 IsLeastAt (d ∷ ds) q c n = IsLeast (HasFault q c) n

@@ -18,7 +18,8 @@ use Rattle.chr_read.specs.Numbers.{number_of}
 use Rattle.chr_read.specs.Faults.{present, is_anonymous}
 use Rattle.chr_base.specs.Sameness.{Parts}
 
--- Names are the variables met so far, the first of them first; its place, and one, is a variable's number.
+-- Names are the variables met so far, in the order in which they were met. The number of a variable is its place, from
+-- 1.
 
 -- where the variable was met before
 abbrev pub met_at : List (List ℕ) → List ℕ → Option ℕ

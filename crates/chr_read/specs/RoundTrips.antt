@@ -10,6 +10,6 @@ use Rattle.chr_read.specs.ProgramTexts.{IsShort, IsProgramText}
 abbrev pub ComesBack : Program → List ℕ → Type 0
 ComesBack p text = IsShort text → IsProgramText text (meaning_of p)
 
--- so it is of every program and its canonical text
+-- the canonical text of every program comes back
 abbrev pub ProgramsComeBack : Type 0
 ProgramsComeBack = (p : Program) → ComesBack p (canonical (declarations p) (rules_of p))

@@ -34,7 +34,7 @@ fn declared_twice(
     comes_again(alloc, symbols)
 }
 
-/// Whether so many more symbols are too many.
+/// Whether `more` symbols more are too many.
 fn has_no_room(program: &Program, more: usize) -> bool
     ensures { result ≡ nat_lt MAX_SYMBOLS (length (declarations program.now) + more) }
 {

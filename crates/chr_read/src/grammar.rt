@@ -24,7 +24,7 @@ pub fn programs_come_back()
 {}
 
 /// A text has one answer: it is a program of one meaning, or it has one fault at one clause, or it is too long, and no
-/// two of these.
+/// two of these are so.
 pub fn texts_have_one_answer()
     ensures some { TextsHaveSomeAnswer }
     ensures meaning { ProgramsHaveOneMeaning }

@@ -16,7 +16,7 @@ pub struct Reader {
     pub weighed: Vec<SymbolId>,
 }
 
-/// Before the first clause.
+/// What no clause has made: the empty program.
 pub fn start(alloc: Global) -> Reader
     ensures { progress_of result ≡ nothing }
 {

@@ -15,7 +15,7 @@ use chr_base::limits::MAX_NAME;
 use chr_base::program::Program;
 use chr_syntax::{RawAtom, RawRule, RawSymbol};
 
-/// The bytes of a name as text.
+/// The bytes of a name as text. None where they are no UTF-8.
 #[tactic(auto, using(crate::proofs::Names::text_is, crate::proofs::Names::no_text_is))]
 pub fn name_in(word: &[u8]) -> Option<&str>
     ensures { option_map (λ s. s.now) result ≡ (if is_utf8 word.now then Some word.now else None) }
@@ -30,7 +30,7 @@ pub fn is_long(word: &[u8]) -> bool
     MAX_NAME < word.len()
 }
 
-/// The declared symbol of this name and number of arguments.
+/// The declared symbol of this name and number of arguments. None where it is not declared.
 #[tactic(auto, using(crate::proofs::Names::no_text_is_declared))]
 pub fn place_of(program: &Program, name: &[u8], arity: usize) -> Option<SymbolId>
     ensures { option_map (λ s. s.0) result ≡ place_of (declarations program.now) name.now arity }
@@ -38,14 +38,14 @@ pub fn place_of(program: &Program, name: &[u8], arity: usize) -> Option<SymbolId
     program.symbol(name_in(name)?, arity)
 }
 
-/// The declared symbol of this atom.
+/// The declared symbol of this atom. None where it is not declared.
 pub fn place_of_atom(program: &Program, atom: &RawAtom<'_>) -> Option<SymbolId>
     ensures { option_map (λ s. s.0) result ≡ place_of_atom (declarations program.now) (atom_view atom.now) }
 {
     place_of(program, atom.name, atom.args.as_slice().len())
 }
 
-/// The declared symbol of this name and these digits.
+/// The declared symbol of this name, with the arity that these digits give. None where it is not declared.
 pub fn place_of_symbol(program: &Program, symbol: &RawSymbol<'_>) -> Option<SymbolId>
     ensures { option_map (λ s. s.0) result ≡ place_of_symbol (declarations program.now) (symbol_view symbol.now) }
 {

@@ -299,10 +299,11 @@ fn push_weights(out: &mut String, all: &[Declared<'_>]) -> Result<(), AllocError
     Ok(())
 }
 
-/// The canonical text of a program: its declarations in one line, a line for each weight that isn't the default, whose
-/// second number is left out where it is 0, and a line for each rule, whose variables are `V1`, `V2`, ..
+/// The canonical text of a program. It has all declarations in one line, a line for each weight that isn't the default,
+/// and a line for each rule. A weight's second number is left out where it is 0. The variables of a rule are `V1`,
+/// `V2`, ..
 ///
-/// Where it has at most 65,536 bytes, reading it gives the same program.
+/// Where the text has at most 65,536 bytes, reading it gives the same program.
 pub fn write(alloc: Global, program: &Program) -> Result<String, AllocError>
     ensures text { IfOk result (λ s. string_bytes s ≡ canonical (declarations program.now) (rules_of program.now)) }
     ensures round_trip { IfOk result (λ s. ComesBack program.now (string_bytes s)) }

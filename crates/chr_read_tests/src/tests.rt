@@ -12,7 +12,7 @@ use std::process::Abort;
 
 #[derive(Clone, Copy, PartialEq, Eq)]
 enum Outcome {
-    /// How many symbols and rules it has.
+    /// The numbers of its symbols and of its rules.
     Program(usize, usize),
     /// The fault's number, and the clause.
     Bad(u8, usize),
@@ -163,7 +163,7 @@ fn after_symbols(rt: &impl Abort, alloc: Global, after: &str) -> String {
     text
 }
 
-/// The text so many times.
+/// The text, `times` times in a row.
 fn repeated(rt: &impl Abort, alloc: Global, text: &str, times: usize) -> String {
     let mut all = String::new(alloc);
     for _ in 0..times {

@@ -30,7 +30,7 @@ parity c = elim (cases_eq (c % 2) 0) [
   | inr other ↦ inr (omega (arith, other))
 ]
 
--- the polynomial sets the highest bit
+-- a number below 2^31 has the highest bit set once the polynomial is added
 high : (x : ℕ) → x < 2147483648 → 2147483648 ≤ bit_xor x 3988292384
 high x low =
     let top : x / 2147483648 ≡ 0 = omega (arith, low) in

@@ -14,7 +14,7 @@ use Rattle.chr_records.specs.Damages.{line_count}
 abbrev none : Option (List ℕ)
 none = None
 
--- one step each
+-- one step of each kind
 pub opens : (bytes : List ℕ) → read_from None (61 ∷ bytes) ≡ read_from (Some []) bytes
 opens bytes = refl
 
@@ -171,7 +171,7 @@ pub text-push : (text : List ℕ) (b : ℕ) → IsText text → b ≢ line_feed 
 text-push [] b is other not = (other, not, tt)
 text-push (x ∷ text) b is other not = (is.0, is.1, text-push text b is.2 other not)
 
--- what stands before the bytes that are still to be read
+-- the bytes that were read before those that are still to be read
 abbrev before : Option (List ℕ) → List ℕ
 before None = []
 before (Some text) = gate ∷ text

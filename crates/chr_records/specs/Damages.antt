@@ -28,7 +28,7 @@ pub record IsSound (bytes : List ℕ) : Type 0 where
   pub front : HasMessages bytes messages rest
   pub none : line_count rest ≡ 0
 
--- behind the records of some messages, which are as many as can be, lines end
+-- behind the records of some messages, of which there are as many as can be, lines end
 pub record IsDamaged (bytes : List ℕ) (damage : Damage) : Type 0 where
   pub messages : List (List ℕ)
   pub rest : List ℕ

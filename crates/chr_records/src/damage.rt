@@ -9,9 +9,9 @@ use crate::split_message;
 pub struct Damage {
     /// How many records are sound.
     pub records: usize,
-    /// How many bytes they take.
+    /// How many bytes the sound records take.
     pub place: usize,
-    /// How many lines end behind them: as many as there were records, where none of their ends is damaged.
+    /// How many lines end behind the sound records: as many as there were records, where none of their ends is damaged.
     pub lines: usize,
 }
 
@@ -23,7 +23,7 @@ pub fn count_lines(bytes: &[u8]) -> usize
 }
 
 /// Where the records with a right checksum end, if a line ends behind them. A batch whose writing a crash cut short may
-/// look so, too: only the writer knows whether it was told.
+/// look damaged, too: only the writer knows whether the batch was told.
 pub fn find_damage(bytes: &[u8]) -> Option<Damage>
     ensures { MatchOption result (IsSound bytes.now) (λ damage. IsDamaged bytes.now damage) }
 {

@@ -11,7 +11,8 @@ pub fn records_are_read_back()
     ensures split { AllAreSplit }
 {}
 
-/// A front of the bytes stands for a front of the records, and so do bytes of which some are missing or blank.
+/// A front of the bytes stands for a front of the records. Bytes of which some are missing or blank stand for a front
+/// of the records, too.
 pub fn records_are_fronts()
     ensures fronts { FrontsStand }
     ensures faded { FadedAreFronts }
@@ -22,7 +23,7 @@ pub fn reading_goes_on()
     ensures { ReadingGoesOn }
 {}
 
-/// Whole records end as many lines as they are, whatever stands behind them.
+/// Whole records end one line each, whatever stands behind them.
 pub fn lines_are_records()
     ensures { LinesAreRecords }
 {}

@@ -8,7 +8,7 @@ use crate::checksum::{CHECKSUM_SIZE, checksum};
 use crate::split_record;
 use std::alloc::AllocError;
 
-/// Writes the record of a message, with its checksum, behind what is there.
+/// Adds the record of a message, with its checksum, behind what is there.
 ///
 /// # Errors
 ///
@@ -25,7 +25,7 @@ pub fn push_message(bytes: &mut Vec<u8>, message: &[u8]) -> Result<(), AllocErro
     Ok(())
 }
 
-/// The message of a text whose checksum is that of its message. None of any other text.
+/// The message of a text whose checksum is that of its message. None where it is another.
 pub fn message_in(text: &[u8]) -> Option<&[u8]>
     ensures { MatchOption result ((m : List ℕ) → text.now ≢ text_of m) (λ message. text.now ≡ text_of message.now) }
 {

@@ -83,7 +83,7 @@ not_before rules s x y h g l =
     instance_steps h.at.rule x.heads.items s h.at.instance h.at.there
     (g.least_rule (x.rule - 1) h.at.rule (omega (arith, n, l)) h.at.named)
 
--- and have the same heads
+-- two least instances of one rule in one store have the same heads
 same_tuple : (r : Rule) (s : Store) (xs ys : List Atom) → HasInstance r xs → IsWithin (store_of xs) s
     → IsLeastInstance r s xs → HasInstance r ys → IsWithin (store_of ys) s → IsLeastInstance r s ys → xs ≡ ys
 same_tuple r s xs ys h w least g v least' = by (slice_cmp atom_cmp xs ys) refl

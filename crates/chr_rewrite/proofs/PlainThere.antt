@@ -169,7 +169,7 @@ module _ (rules : List Rule) (w : Atom → ℕ) (lowers : (i : ℕ) (r : Rule) �
   pub plain_there : (s : Store) → HasPlain rules s
   plain_there s = plain_below (suc (weight_of w s)) s (omega arith)
 
-  -- of no more steps than the store weighs
+  -- a plain derivation has no more steps than its first store weighs
   pub plain_few : (steps : List StepValue) (s t : Store) → IsPlainDerivation rules steps s t
       → length steps ≤ weight_of w s
   plain_few [] s t h = omega arith

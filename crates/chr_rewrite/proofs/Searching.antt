@@ -57,7 +57,7 @@ all_tried r items is n none all short (j ∷ js) c h =
     let l : nat_lt j (length items) ≡ true = (and_parts _ _ (and_parts _ (is_choice items (is ++ j ∷ []) js) c).0).0 in
     none j (grind (arith, nat_tests)) js c h
 
--- the index n was tried too
+-- where no choice goes on with an index below n, nor with n, none does with an index below n + 1
 one_more : (r : Rule) (items : List Atom) (is : List ℕ) (n : ℕ) → NoneBelow r items is n
     → ((js : List ℕ) → IsTrue (is_choice items is (n ∷ js)) → HasInstance r (chosen_atoms items (is ++ n ∷ js)) → ⊥)
     → NoneBelow r items is (n + 1)
@@ -70,14 +70,14 @@ one_more r items is n none here k l js c h = by (nat_eq k n) refl
         (subst (λ m. HasInstance r (chosen_atoms items (is ++ m ∷ js))) same h)
     by false e = none k (grind (arith, nat_tests)) js c h
 
--- it was chosen, and nothing went on from there
+-- where nothing goes on from the index n, it is one more that was tried
 pub tried_chosen : (r : Rule) (items : List Atom) (is : List ℕ) (n : ℕ) → NoneBelow r items is n
     → NoCompletion r items (is ++ n ∷ []) → NoneBelow r items is (n + 1)
 tried_chosen r items is n none no_more =
     one_more r items is n none (λ js c h. no_more js (and_parts _ (is_choice items (is ++ n ∷ []) js) c).1
     (subst (λ xs. HasInstance r (chosen_atoms items xs)) (sym (append_assoc is (n ∷ []) js)) h))
 
--- it had been chosen already
+-- where the index n is taken already, it is one more that was tried
 pub tried_taken : (r : Rule) (items : List Atom) (is : List ℕ) (n : ℕ) → NoneBelow r items is n
     → list_any (λ j. nat_eq j n) is ≡ true → NoneBelow r items is (n + 1)
 tried_taken r items is n none taken =
@@ -95,7 +95,7 @@ at_seam : (items : List Atom) (is : List ℕ) (n : ℕ) (js : List ℕ) → get_
 at_seam items [] n js = refl
 at_seam items (i ∷ is) n js = at_seam items is n js
 
--- its atom has not the shape of the place
+-- where the atom at n has not the shape of the next place, n is one more index that was tried
 tried_shape : (r : Rule) (items : List Atom) (is : List ℕ) (n : ℕ) → NoneBelow r items is n
     → length is < length (heads_of r) → has_shape_at r (length is) (get_or items n no_atom) ≡ false
     → NoneBelow r items is (n + 1)

@@ -63,7 +63,7 @@ some_lower p rules m s t lowers same some h =
     (subst (λ rs. Runs (Step rs) m s t) same h) in
     omega (arith, low, some)
 
--- at rest under the program's rules
+-- a store at rest under rules that are the program's is at rest under the program's
 pub rests_so : (p : Program) (rules : List Rule) (t : Store) → rules ≡ rules_of p → IsAtRest (Step rules) t
     → IsAtRest (Step (rules_of p)) t
 rests_so p rules t same rest = subst (λ rs. IsAtRest (Step rs) t) same rest

@@ -52,6 +52,6 @@ IsPlainDerivation rules [] s t = s ≡ t
 IsPlainDerivation rules (st ∷ steps) s t =
     (u : Store) × IsLeastStep rules s st × LeadsTo rules st s u × IsPlainDerivation rules steps u t
 
--- such a derivation that ends at rest
+-- a plain derivation that ends at rest
 abbrev pub IsPlainComputation : List Rule → List StepValue → Store → Store → Type 0
 IsPlainComputation rules steps s t = IsPlainDerivation rules steps s t × IsAtRest (Step rules) t

@@ -7,7 +7,7 @@ use Rattle.chr_base.specs.Stores.{Store}
 use Rattle.chr_base.specs.Rules.{RuleLowers}
 use Rattle.chr_rewrite.specs.Derivations.{IsPlainComputation}
 
--- from each store, where each rule lowers the weight
+-- where each rule lowers a weight, each store has a plain computation
 abbrev pub PlainComputationsExist : Type 0
 PlainComputationsExist =
     (rules : List Rule) (w : Atom → ℕ) → ((i : ℕ) (r : Rule) → slice_get rules i ≡ Some r → RuleLowers w r)

@@ -9,9 +9,8 @@ use Rattle.chr_base.specs.Programs.{declarations, rules_of}
 use Rattle.chr_base.specs.Rewriting.{Runs}
 use Rattle.chr_weights.specs.Weights.{store_rank, store_weight}
 
--- Steps of the program that lead from s to t, as many as n says, or where n is the greatest u64, that many or more.
--- Each
--- lowered the rank, and where no weight has a second number, the first.
+-- Some steps of the program lead from s to t. Their number is n, or more where n is the greatest u64. Each lowered the
+-- rank, and where no weight has a second number, the first number.
 pub record TookSteps (p : Program) (n : ℕ) (s t : Store) : Type 0 where
   pub steps : ℕ
   pub counted : n ≡ u64_saturate steps

@@ -19,7 +19,7 @@ pub(crate) fn copies_of(alloc: Global, atoms: &[Atom]) -> Result<Vec<Atom>, Allo
     Ok(copies)
 }
 
-/// Where such an atom stands.
+/// The place of such an atom, where one stands in the list.
 fn index_of(items: &[Atom], atom: &Atom) -> Option<usize>
     ensures within { IfSome result (λ i. i < length items.now) }
     ensures found { IfSome result (λ i. slice_index_or items.now i atom.now ≡ atom.now) }

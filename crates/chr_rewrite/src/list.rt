@@ -35,7 +35,7 @@ impl Model for ListPool {
 }
 
 impl ListPool {
-    /// The empty one.
+    /// The pool of no atoms.
     pub fn new(alloc: Global) -> Self
         ensures { result ≡ bag.empty }
     {

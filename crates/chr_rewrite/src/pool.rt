@@ -38,11 +38,11 @@ pub trait Pool {
         ensures ok { OnOk result (contents self.new ≡ contents self.old ⊕ store_of atoms.now) }
         ensures err { OnErr result (contents self.new ≡ contents self.old) };
 
-    /// Whether all of these atoms are there, as a multiset. It takes no memory.
+    /// Whether all of these atoms are in the pool, as a multiset. It takes no memory.
     fn has(&self, atoms: &[Atom]) -> bool
         ensures { IsTrue result ↔ IsWithin (store_of atoms.now) (contents self.now) };
 
-    /// Takes all of these atoms out, or none where as a multiset they are not there. It takes no memory.
+    /// Takes all of these atoms out, or none where as a multiset they are not all there. It takes no memory.
     fn remove(&mut self, atoms: &[Atom]) -> bool
         ensures there { IsTrue result ↔ IsWithin (store_of atoms.now) (contents self.old) }
         ensures taken { OnTrue result (contents self.new ≡ contents self.old ⊖ store_of atoms.now) }
@@ -52,16 +52,16 @@ pub trait Pool {
     fn bag(&self, alloc: Global) -> Result<Bag, AllocError>
         ensures { IfOk result (λ b. b ≡ contents self.now) };
 
-    /// Steps of these rules: so many, or fewer where the pool is at rest then, or where memory is refused, after which
-    /// the steps taken so far stand.
+    /// Takes `most` steps of these rules, or fewer where the pool is at rest then, and tells how many. Where memory is
+    /// refused the steps taken so far stand.
     fn advance(&mut self, rules: &[Rule], most: u64) -> Result<u64, Stopped>
         ensures ok { IfOk result (λ n. Runs (Step rules.now) n (contents self.old) (contents self.new)) }
         ensures most { IfOk result (λ n. n ≤ most) }
         ensures rests { IfOk result (λ n. n < most → IsAtRest (Step rules.now) (contents self.new)) }
         ensures stopped { IfErr result (λ e. Runs (Step rules.now) e.steps (contents self.old) (contents self.new)) };
 
-    /// One step of some rule. False, and nothing changes, where the pool is at rest; where memory is refused nothing
-    /// changes either.
+    /// Takes one step of some rule. False, and nothing changes, where the pool is at rest; where memory is refused
+    /// nothing changes either.
     fn step(&mut self, rules: &[Rule]) -> Result<bool, AllocError>
         ensures step { IfOk result (StepsOrStays rules.now (contents self.old) (contents self.new)) }
         ensures err { OnErr result (contents self.new ≡ contents self.old) };

@@ -81,6 +81,10 @@ pub fn take_steps<P: Pool>(
 }
 
 /// The end of the derivation, where each of its steps is an instance of its rule that is in the store before it.
+///
+/// # Errors
+///
+/// `NotThere` with the place of the first step that is no such instance; `Memory` where memory is refused.
 pub fn replay(alloc: Global, weighed: &Weighed, derivation: &Derivation) -> Result<Bag, ReplayFault>
     ensures ok { IfOk result (
         IsDerivation (rules_of (program_of weighed.now)) derivation.now.steps.items derivation.now.start) }

@@ -11,11 +11,14 @@ use crate::pool::Pool;
 pub use chr_columns::columns::Stopped;
 use chr_weights::Weighed;
 
-/// Takes steps of the program until the pool is at rest. It answers their number, which stays at the greatest u64; a
-/// store whose rank fits 64 bits, as that of a million atoms does (`ranks_are_bounded`), takes as many as are told. A
-/// pool at rest stays as it is. Where memory is refused, the steps taken so far stand, and [`Stopped`] has their
-/// number, which stays at the greatest u64 too; that may be before it is known whether the pool is at rest, which
-/// [`at_rest`] tells without memory.
+/// Takes steps of the program until the pool is at rest, and tells how many. A number of 2^64 or more is told as the
+/// greatest u64; where the store's rank fits 64 bits, as that of a million atoms does (`ranks_are_bounded`), the number
+/// is exact. A pool at rest stays as it is.
+///
+/// # Errors
+///
+/// Where memory is refused, the steps taken so far stand, and [`Stopped`] has their number, at most the greatest u64.
+/// The pool may then be at rest already: [`at_rest`] tells it without memory.
 pub fn rest<P: Pool>(weighed: &Weighed, pool: &mut P) -> Result<u64, Stopped>
     ensures ok { IfOk result (λ n. TookSteps (program_of weighed.now) n (P.contents pool.old) (P.contents pool.new)) }
     ensures exact { store_rank (program_of weighed.now) (P.contents pool.old) < 2 ^ 64 →

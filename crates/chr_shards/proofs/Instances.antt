@@ -1,4 +1,4 @@
--- The atoms of an instance lie in one pool, and so do those that it puts in.
+-- The atoms of an instance, and those that it puts in, lie in one pool.
 use Rattle.std.specs.Prelude.{◌≡◌, ℕ, zero, suc, ℤ, ◌+◌, ◌-◌, ◌<◌, ◌≤◌, ◌%◌, List, [], ◌∷◌}
 use Rattle.std.specs.Prelude.{Some}
 use Rattle.std.specs.Prelude.{slice_get, cond, All, length, set, nat_lt}
@@ -122,7 +122,7 @@ module _ (p : Placing) (rules : List Rule) (ss : List Store) (is : AreShards p r
       no_instance rules (store_at ss at.place) (each at.place at.within) h.0 h.1 h.2 h.3 h.4.guard
       (heads_within at.place (heads_at h.2 h.1) at.heads h.4.there)
 
-  -- and where they are at rest together each is
+  -- where the pools are at rest together, each pool is at rest
   pub rests_apart : IsAtRest (Step rules) (stores_sum ss) → (k : ℕ) → k < length ss
       → IsAtRest (Step rules) (store_at ss k)
   rests_apart rest k within u h =

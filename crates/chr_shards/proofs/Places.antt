@@ -44,7 +44,7 @@ one_lies p n k a is q some = elim (one_other a q) as (λ _. place_in p n q ≡ k
   | inr none ↦ absurd (omega (arith, none, some))
 ]
 
--- A pool s at a place becomes t, and x is what it takes in or gives out there.
+-- A pool s at the place k becomes t, and x is what it takes in or gives out.
 module _ (p : Placing) (ss : List Store) (k : ℕ) (s t x : Store) (placed : ArePlaced p ss) (within : k < length ss)
     (here : s ≡ get_or ss k s) where
   at : store_at ss k ≡ s
@@ -54,7 +54,7 @@ module _ (p : Placing) (ss : List Store) (k : ℕ) (s t x : Store) (placed : Are
   set_count q = subst (λ u. count (stores_sum (set ss k t)) q + count u q ≡ count (stores_sum ss) q + count t q) at
       (count_set ss k t q within)
 
-  -- it keeps to its place
+  -- where all atoms of t have the place k, the pools are placed with t there
   pub placed_still : LiesAt p (length ss) k t → ArePlaced p (set ss k t)
   placed_still lies i q some = elim (cases_eq i k) as (λ _. place_in p (length (set ss k t)) q ≡ i) [
     | inl same ↦ (let e : store_at (set ss k t) i ≡ t =
@@ -104,7 +104,7 @@ module _ (p : Placing) (ss : List Store) (k : ℕ) (s t x : Store) (placed : Are
       let b : count t q ≡ count (s ⊕ x) q = ap (λ u. count u q) put in let c = count_plus s x q in omega (arith, b, c)
   put_most (Err e) put same q = let b : count t q ≡ count s q = ap (λ u. count u q) same in omega (arith, b)
 
-  -- what is taken out there is taken out of the store
+  -- what is taken out of the pool is taken out of the store
   pub take_sum : LiesAt p (length ss) k x → ((q : Atom) → count t q ≡ count s q - count x q)
       → stores_sum (set ss k t) ≡ stores_sum ss ⊖ x
   take_sum lies taken = same_store _ _ (λ q. (

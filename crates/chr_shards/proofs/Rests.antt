@@ -45,7 +45,7 @@ reach_sum rules (s ∷ ss) (t ∷ ts) h =
     (h.1 0 (omega arith))
     (reach_sum rules ss ts ((let e = h.0 in omega (arith, e)), λ k l. h.1 (suc k) (omega (arith, l))))
 
--- and keep shards shards
+-- runs in all pools of shards lead to shards
 pub shards_stay : (p : Placing) (rules : List Rule) (ss ts : List Store) → AreShards p rules ss → ReachEach rules ss ts
     → AreShards p rules ts
 shards_stay p rules ss ts is h = record {
@@ -67,7 +67,7 @@ shards_stay p rules ss ts is h = record {
 pub reach_same : (rules : List Rule) (ss : List Store) → ReachEach rules ss ss
 reach_same rules ss = (refl, λ k _. runs.reaches_itself (Step rules) (store_at ss k))
 
--- and where one goes on they do
+-- where each pool is reached, and one goes on, each is reached
 pub reach_on : (rules : List Rule) (ss ts : List Store) (k : ℕ) (t : Store) → ReachEach rules ss ts → k < length ts
     → Reaches (Step rules) (store_at ts k) t → length (set ts k t) ≡ length ts → ReachEach rules ss (set ts k t)
 reach_on rules ss ts k t h within r len = (
@@ -82,7 +82,7 @@ reach_on rules ss ts k t h within r len = (
   ]),
 )
 
--- those of two lists do
+-- where each pool of two lists is reached, each pool of both in a row is
 pub reach_both : (rules : List Rule) (ss ts us vs : List Store) → ReachEach rules ss ts → ReachEach rules us vs
     → ReachEach rules (ss ++ us) (ts ++ vs)
 reach_both rules [] [] us vs g h = h

@@ -43,7 +43,7 @@ leads_in rules st ss k t within h =
     (subst (λ s. LeadsTo rules st s (t ⊕ stores_sum (set ss k bag.empty))) (sym (apart_from ss k within))
     (leads_grows rules st (store_at ss k) t (stores_sum (set ss k bag.empty)) h))
 
--- one of the store is one in the pool of its first head
+-- a named step that is applicable in the store is applicable in the pool of its first head
 pub applicable_in : (p : Placing) (rules : List Rule) (st : StepValue) (ss : List Store) (k : ℕ) → AreShards p rules ss
     → ((a : Atom) → slice_get st.heads.items 0 ≡ Some a → k ≡ place_in p (length ss) a)
     → IsApplicable rules (stores_sum ss) st → IsApplicable rules (store_at ss k) st

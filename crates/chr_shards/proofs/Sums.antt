@@ -168,7 +168,7 @@ one_more_in s t u xs i a within here before put =
     cut = subst (λ n. take n xs ≡ take i xs ++ a ∷ []) (let e : suc i ≡ i + 1 = omega arith in e)
         (take-suc xs i a within ∙ ap (λ x. take i xs ++ x ∷ []) (sym here))
 
--- and taken out again
+-- atoms that were put in and are taken out again leave the store as it was
 pub in_and_out : (s t u : Store) (xs : List Atom) → t ≡ s ⊕ store_of xs → u ≡ t ⊖ store_of xs → u ≡ s
 in_and_out s t u xs put left = same_store _ _ (λ q. (
     let a : count u q ≡ count (t ⊖ store_of xs) q = ap (λ x. count x q) left in

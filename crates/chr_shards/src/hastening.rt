@@ -18,7 +18,7 @@ fn hasten_one(weighed: &Weighed, pool: &mut Columns)
     let _ = rest_one(weighed, pool);
 }
 
-/// Does so in these pools, one after the other.
+/// Takes steps in these pools, one after the other, until each is at rest or memory is refused.
 fn hasten_in_turn(weighed: &Weighed, pools: &mut [Columns])
     ensures { ReachEach (rules_in weighed.now) pools.old pools.new }
 {
@@ -27,7 +27,7 @@ fn hasten_in_turn(weighed: &Weighed, pools: &mut [Columns])
     }
 }
 
-/// Does so in the first pools by a thread of their own, and meanwhile in the others, so many by a thread.
+/// Takes steps in the first pools by a thread of their own, and meanwhile in the others, `size` pools by a thread.
 #[cycle(threads)]
 fn hasten_both<R: Threads + Sync>(
     rt: &R,
@@ -50,8 +50,8 @@ fn hasten_both<R: Threads + Sync>(
     join_mut(rt, &mut there, &mut here);
 }
 
-/// Does so in all pools, so many of them by a thread. The caller's thread begins all others: one that had to begin
-/// others first would come to its own pools late.
+/// Takes steps in all pools, `size` of them by a thread. The caller's thread begins all others: a thread that had to
+/// begin others first would come late to its own pools.
 #[cycle(threads)]
 fn hasten_by_size<R: Threads + Sync>(rt: &R, weighed: &Weighed, size: usize, pools: &mut [Columns])
     requires { 0 < size }
@@ -65,7 +65,7 @@ fn hasten_by_size<R: Threads + Sync>(rt: &R, weighed: &Weighed, size: usize, poo
     hasten_both(rt, weighed, size, first, others);
 }
 
-/// Does so in each pool, by so many threads.
+/// Takes steps in each pool, by `threads` threads.
 pub(crate) fn hasten_each<R: Threads + Sync>(
     rt: &R,
     weighed: &Weighed,

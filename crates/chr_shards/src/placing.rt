@@ -11,7 +11,7 @@ use chr_base::rule::Rule;
 use chr_columns::joint::{Joint, joint_of};
 use chr_tables::hash::key_hash;
 
-/// By which argument atoms are told to pools, and the seed under which it is hashed.
+/// By which argument atoms are put into pools, and the seed under which it is hashed.
 #[derive(Drop)]
 pub(crate) struct Placing {
     pub(crate) seed: u64,
@@ -19,7 +19,7 @@ pub(crate) struct Placing {
 }
 
 impl Placing {
-    /// The number of the pool for an atom, from 0, where there are so many. Atoms of one value have one pool.
+    /// The number of the pool for an atom, from 0, where there are `count` pools. Atoms of one value have one pool.
     pub(crate) fn place(&self, count: usize, atom: &Atom) -> usize
         requires { 0 < count }
         ensures place { result ≡ place_in self.now count atom.now }
@@ -42,8 +42,8 @@ impl Placing {
     }
 }
 
-/// The argument by which atoms of these rules are told to pools, and into how many of them, so many at most: one, where
-/// the rules don't allow more. The seed is another than that of the pools' own keys.
+/// The argument by which atoms of these rules are put into pools, and the number of pools: at most `most`, and one
+/// where the rules don't allow more. The seed is another than that of the pools' own keys.
 pub(crate) fn placing_for(rules: &[Rule], seed: u64, most: usize) -> (Placing, usize)
     ensures some { 0 < result.1 }
     ensures local { 1 < result.1 → All (IsLocal result.0.joint.columns.items) rules.now }

@@ -23,10 +23,10 @@ use std::alloc::{AllocError, Global};
 use std::slice;
 use std::thread::Threads;
 
-/// So many runs of atoms that are in order are sooner put together by one thread than sorted by several.
+/// Up to this many runs of atoms in order are put together by one thread sooner than they are sorted by several.
 const MOST_RUNS: usize = 8;
 
-/// So many empty pools of these rules.
+/// `count` empty pools of these rules.
 pub(crate) fn empty_pools(
     alloc: Global,
     seed: u64,
@@ -67,7 +67,8 @@ fn remove_one(placing: &Placing, pools: &mut Vec<Columns>, atom: &Atom)
     pools[place].remove(slice::from_ref(atom));
 }
 
-/// Takes these atoms out, as far as they are there, the last one first: as after they were put in. It takes no memory.
+/// Takes these atoms out, as far as they are there. The last one goes first, so that atoms that were just put in are
+/// found at once. It takes no memory.
 pub(crate) fn remove_each(placing: &Placing, pools: &mut Vec<Columns>, atoms: &[Atom])
     requires some { 0 < length pools.old.items }
     requires placed { ArePlaced placing.now pools.old.items }
@@ -117,7 +118,7 @@ pub(crate) fn insert_each(
     Ok(())
 }
 
-/// Whether all of these atoms are there, as a multiset. It takes no memory.
+/// Whether all of these atoms are in the store, as a multiset. It takes no memory.
 pub(crate) fn have_each(placing: &Placing, pools: &[Columns], atoms: &[Atom]) -> bool
     requires some { 0 < length pools.now }
     requires placed { ArePlaced placing.now pools.now }
@@ -150,7 +151,7 @@ pub(crate) fn bag_of(alloc: Global, pools: &[Columns]) -> Result<Bag, AllocError
     Bag::of(atoms_of(alloc, pools)?)
 }
 
-/// How many atoms belong before the one in front of them: one less than the runs that are in order.
+/// The number of atoms that belong before the one in front of them. There is one more run of atoms in order.
 fn breaks_in(atoms: &[Atom]) -> usize {
     let mut breaks: usize = 0;
     for i in 1..atoms.len() {
@@ -161,7 +162,7 @@ fn breaks_in(atoms: &[Atom]) -> usize {
     breaks
 }
 
-/// Puts the runs of atoms that are in order together by one thread. Where memory is refused they stay as they are.
+/// Puts the runs of atoms in order together by one thread. Where memory is refused they stay as they are.
 #[tactic(auto, using(chr_base::proofs::Sorting::same_multiset))]
 fn merge_runs(atoms: &mut Vec<Atom>)
     ensures { store_of atoms.new.items ≡ store_of atoms.old.items }
@@ -188,7 +189,7 @@ fn put_in_order<R: Threads + Sync>(rt: &R, atoms: &mut Vec<Atom>)
     }
 }
 
-/// The same, put in order by several threads where there are many runs.
+/// Like [`bag_of`], but several threads put the atoms in order where there are many runs.
 pub(crate) fn bag_by<R: Threads + Sync>(
     rt: &R,
     alloc: Global,

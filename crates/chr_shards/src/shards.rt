@@ -32,7 +32,7 @@ use std::sync::Arc;
 use std::thread::Threads;
 
 /// A store under the rules of a program. It is kept in several pools where all atoms of an instance of each rule, and
-/// those that it puts in, have one value of an argument, and in one pool otherwise.
+/// those that it puts in, have one value of an argument; otherwise in one pool.
 pub struct Shards {
     weighed: Arc<Weighed>,
     placing: Placing,
@@ -68,7 +68,7 @@ impl Model for Shards {
 }
 
 impl Shards {
-    /// The empty store under a program, in so many pools at most. Its keys are hashed under the seed.
+    /// The empty store under a program, in at most `most` pools. Its keys are hashed under the seed.
     pub fn open(
         alloc: Global,
         weighed: Arc<Weighed>,
@@ -88,12 +88,12 @@ impl Shards {
         })
     }
 
-    /// In how many pools the store is kept. It takes no memory.
+    /// The number of pools in which the store is kept. It takes no memory.
     pub fn count(&self) -> usize {
         self.pools.len()
     }
 
-    /// How many atoms wait to be looked at, of all that are there. It takes no memory.
+    /// The number of atoms that no rule has been tried on yet, among all that are there. It takes no memory.
     pub fn waiting(&self) -> usize
         ensures { result ≤ size self.now.store }
     {
@@ -109,7 +109,7 @@ impl Shards {
         insert_each(&self.placing, &mut self.pools, atoms)
     }
 
-    /// Whether all of these atoms are there, as a multiset. It takes no memory.
+    /// Whether all of these atoms are in the store, as a multiset. It takes no memory.
     pub fn has(&self, atoms: &[Atom]) -> bool
         ensures { IsTrue result ↔ IsWithin (store_of atoms.now) self.now.store }
     {
@@ -138,8 +138,8 @@ impl Shards {
         bag_by(rt, alloc, &self.pools)
     }
 
-    /// Adds the text of the store at the end of a text, as that of its bag is, and without one, by so many threads at
-    /// most. False, and nothing is added, where pools can't do that (`Columns::push_text`).
+    /// Adds the text of the store at the end of a text: the text of its bag, but no bag is made. At most `threads`
+    /// threads work at it. False, and nothing is added, where pools can't do that ([`Columns::push_text`]).
     pub fn push_text<R: Threads + Sync>(
         &self,
         rt: &R,
@@ -183,8 +183,8 @@ impl Shards {
         rest_all(&self.weighed, &self.pools)
     }
 
-    /// Takes steps until the store is at rest. It answers their number, which stays at the greatest u64. A store at
-    /// rest stays as it is.
+    /// Takes steps until the store is at rest, and tells how many: a number of 2^64 or more is told as the greatest
+    /// u64. A store at rest stays as it is.
     ///
     /// # Errors
     /// Where memory is refused, with the number of steps taken so far, which stand.
@@ -198,8 +198,8 @@ impl Shards {
         rest_each(&self.weighed, &mut self.pools)
     }
 
-    /// Takes steps by so many threads, each in pools of its own, until the store is at rest or memory is refused to one
-    /// of them; [`Shards::rest`] then takes what is left.
+    /// Takes steps by `threads` threads, each in pools of its own, until the store is at rest or memory is refused to
+    /// one of them. [`Shards::rest`] then takes the steps that are left.
     pub fn hasten<R: Threads + Sync>(&mut self, rt: &R, threads: usize)
         requires { 0 < threads }
         ensures weighed { self.new.weighed ≡ self.old.weighed }

@@ -138,7 +138,7 @@ record Choices (cs before ks ns : List ℤ) : Type 0 where
   rise : Rises ns
   new : (z : ℤ) → In z ns → In z ks → ⊥
 
--- the next number is a choice from then on
+-- with the next number among the values before, it is a choice
 choices_on : (cs before ks : List ℤ) (n : ℤ) (ns : List ℤ) → Choices cs before ks (n ∷ ns)
     → Choices cs (n ∷ before) (inserted n ks) ns
 choices_on cs before ks n ns c = record {

@@ -80,7 +80,7 @@ no_same x y n = by (int_eq x y) refl
     by true e = absurd (n (same_yes x y e))
     by false e = e
 
--- the next number goes on
+-- the search with the next number goes on to the lists behind it
 pub number_goes_on : (left : ℕ) (ks ns p more rest longer : List ℤ) (z n : ℤ) → n ≡ get_or ns 0 (pos 0) → z ≡ n
     → more ≡ inserted n ks → rest ≡ drop 1 ns → longer ≡ p ++ z ∷ []
     → lists_behind (left - 1) more rest longer ≡ next_lists left ks ns p z
@@ -89,7 +89,7 @@ number_goes_on left ks ns p more rest longer z n is same m r l =
     ∙ ap (λ b. cond b (lists_behind (left - 1) (inserted (get_or ns 0 (pos 0)) ks) (drop 1 ns) (p ++ z ∷ []))
     (lists_behind (left - 1) ks ns (p ++ z ∷ []))) (sym (yes_same z (get_or ns 0 (pos 0)) (same ∙ is)))
 
--- another choice does
+-- the search with another choice goes on to the lists behind it
 pub choice_goes_on : (left : ℕ) (ks ns p longer : List ℤ) (z n : ℤ) → n ≡ get_or ns 0 (pos 0) → (z ≡ n → ⊥) → longer ≡ p
     ++ z ∷ []
     → lists_behind (left - 1) ks ns longer ≡ next_lists left ks ns p z
@@ -105,7 +105,7 @@ more_lists f old found new ks i d l e n =
     n ∙ ap (λ xs. xs ++ f (get_or ks i d)) e ∙ flat_map_more f old (take i ks) (get_or ks i d)
     ∙ ap (λ xs. old ++ flat_map f xs) (sym (take_more ks i d l))
 
--- what there is, with the lists of one more choice, is no more than all of them
+-- the lists of some choices with those of the next are no more than the lists of all choices
 pub no_more : (left : ℕ) (cs ns p : List ℤ) (old found : List (List ℤ)) (ks : List ℤ) (i : ℕ) (d : ℤ) → (left ≡ 0 → ⊥)
     → ks ≡ inserted (get_or ns 0 (pos 0)) cs
     → i < length ks → found ≡ old ++ flat_map (next_lists left cs ns p) (take i ks)
@@ -117,7 +117,7 @@ no_more left cs ns p old found ks i d some is l e =
     let b = ap length (by_choice left cs ns p some ∙ ap (flat_map f) (sym is)) in
     omega (arith, m, a, b)
 
--- at the end what there is is all
+-- where no choice is left, all lists are there
 pub all_lists : (left i : ℕ) (cs ns p ks : List ℤ) (old found : List (List ℤ)) → (left ≡ 0 → ⊥)
     → ks ≡ inserted (get_or ns 0 (pos 0)) cs → length ks ≤ i
     → found ≡ old ++ flat_map (next_lists left cs ns p) (take i ks) → found ≡ old ++ lists_behind left cs ns p

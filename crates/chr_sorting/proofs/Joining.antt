@@ -158,7 +158,7 @@ sort_here [] p d e l = absurd (omega (arith, l))
 sort_here (t ∷ ts) zero d e l = refl
 sort_here (t ∷ ts) (suc p) d e l = sort_here ts p d e (omega (arith, l))
 
--- a greater bound is one too
+-- a greater bound is a bound, too
 raised_below : (n m : ℕ) (e : Note) → n ≤ m → IsBelow n e → IsBelow m e
 raised_below n m (Joined p q) le h = let a = h.0 in let b = h.1 in (omega (arith, a, le), omega (arith, b, le))
 raised_below n m (Stands p c) le h = omega (arith, h, le)

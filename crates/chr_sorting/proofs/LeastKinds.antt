@@ -88,7 +88,7 @@ equal_least ordered h c g = all_tell c
 equal_least equal h c g = g
 equal_least free h c g = absurd (true≢false (sym h))
 
--- and no more than any kind does that tells both
+-- a raised kind tells no more than each kind that tells what it did and the sign
 pub raised_least : (k l : Kind) (s : Cmp) → ((c : Cmp) → tells k c ≡ true → tells l c ≡ true) → tells l s ≡ true
     → (c : Cmp) → tells (raised k s) c ≡ true → tells l c ≡ true
 raised_least ordered l s all one c h = all c h

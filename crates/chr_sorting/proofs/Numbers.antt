@@ -79,7 +79,7 @@ constant_passed cs us k b d l e f = record {
   ];
 }
 
--- the number is none
+-- the number is no constant
 pub number_found : (cs us : List ℤ) (k : ℕ) (b d : ℤ) → Rises cs → (k < length cs → b <ℤ get_or cs k d)
     → AreNumbersBelow cs k us b → AreNumbersBelow cs k (us ++ b ∷ []) (b +ℤ pos 1)
 number_found cs us k b d r h f = record {
@@ -109,7 +109,7 @@ number_found cs us k b d r h f = record {
       | inr m ↦ (let a = h m.0 in let c = m.1 in absurd (omega (arith, ints, a, c)))
     ]
 
--- what is found so is right
+-- the numbers that are found are the first ones that are no constants
 pub first_found : (cs us : List ℤ) (k : ℕ) (b : ℤ) → length cs + length us ≤ 2 ^ 62 → AreNumbersBelow cs k us b
     → AreFirstNumbers cs us
 first_found cs us k b l f = record {
@@ -122,11 +122,11 @@ first_found cs us k b l f = record {
 
 -- ---- there are as many as wanted
 
--- so many first numbers
+-- there are n first numbers that are no constants
 abbrev pub HasFirst : List ℤ → ℕ → Type 0
 HasFirst cs n = (us : List ℤ) × (length us ≡ n) × AreFirstNumbers cs us
 
--- going on behind what is found, with so many steps left
+-- from what is found, n numbers are found in at most `left` steps
 abbrev GoesOn : List ℤ → ℕ → ℕ → Type 0
 GoesOn cs n left = (k : ℕ) (us : List ℤ) (b : ℤ) → (length cs - k) + (n - length us) ≤ left → length us ≤ n
     → AreNumbersBelow cs k us b → HasFirst cs n

@@ -1,4 +1,4 @@
--- Finest sorts are one at all positions, and so are the sorted cases by them.
+-- Any two finest sorts are the same at all positions, and give an overlap the same sorted cases.
 use Rattle.std.specs.Prelude.{◌≡◌, ℕ, suc, ◌+◌, ◌-◌, ◌<◌, ◌≤◌, ◌<ℤ◌, ◌⊎◌, ℤ, Bool, true, false, cond, nat_le, List, []}
 use Rattle.std.specs.Prelude.{◌∷◌, ◌++◌, map, length}
 use Rattle.std.proofs.Common.{refl, sym, ap, subst, ◌∙◌, arith, inl, inr}
@@ -34,7 +34,7 @@ use Rattle.chr_sorting.specs.SortedCaseLists.{AreListsAt, AreCombinations, AreSo
 use Rattle.chr_sorting.specs.SortedCaseLists.{HasTooManyCombinations}
 use Rattle.chr_sorting.specs.laws.FinestSorts.{AreSameAt, FinestAreOne, FinestHaveOneCases, FinestHaveAsMany}
 
--- kinds that tell the same signs are one
+-- kinds that tell the same signs are equal
 one_kind : (k l : Kind) → ((c : Cmp) → tells k c ≡ true → tells l c ≡ true)
     → ((c : Cmp) → tells l c ≡ true → tells k c ≡ true) → k ≡ l
 one_kind ordered ordered f g = refl

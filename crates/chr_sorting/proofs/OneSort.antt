@@ -77,7 +77,7 @@ module _ (s : Sorts) (ks : List ℕ) (k : ℕ) (only : IsOnlyOrdered s ks k) whe
     order = types.order;
   }
 
-  -- so there are more combinations than the limit where there are more order types
+  -- there are more combinations than the limit just where there are more order types
   pub more_combined : (limit : ℕ) (more : Bool) → ((j : ℕ) → Rises (s.constants j)) → LeaveRoom s (length ks) ks
       → IsTrue more ↔ MoreTypesThan limit (length ks) (s.constants k) → IsTrue more ↔ MoreCombinationsThan s ks limit
   more_combined limit more rises room h =

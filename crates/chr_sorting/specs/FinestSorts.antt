@@ -32,12 +32,12 @@ pub record AreNamedByFirst (o : Sorts) : Type 0 where
 abbrev pub AreShort : List Pattern → Type 0
 AreShort ps = (p : Pattern) → In p ps → length p.args.items ≤ MAX_ARITY
 
--- so has each head of the rules
+-- each head of the rules has at most MAX_ARITY arguments
 abbrev pub HaveShortHeads : List Rule → Type 0
 HaveShortHeads rules = (i : ℕ) (r : Rule) → slice_get rules i ≡ Some r → AreShort (heads_of r)
 
--- The sorts fit the rules, whose heads are short, and are as fine as any that do. Constants are 64-bit values, and
--- rise.
+-- The sorts fit the rules, whose heads have few arguments, and are as fine as any sorts that fit. Constants are 64-bit
+-- values, and rise.
 pub record AreFinest (rules : List Rule) (o : Sorts) : Type 0 where
   pub short : HaveShortHeads rules
   pub fit : Fit o rules

@@ -18,16 +18,16 @@ use Rattle.chr_overlaps.specs.declared.cases.Case.{Case}
 use Rattle.chr_overlaps.specs.declared.cases.TheConstants.{MAX_TYPES}
 use Rattle.chr_overlaps.specs.CaseLists.{case_at}
 
--- the first numbers from 0 that are none of these
+-- us are the first numbers from 0 that are none of the constants cs
 pub record AreFirstNumbers (cs us : List ℤ) : Type 0 where
   pub values : AreValues us
   pub rise : Rises us
   pub new : (z : ℤ) → In z us → (pos 0 ≤ℤ z) × (¬ In z cs)
   pub all : (z x : ℤ) → In z us → pos 0 ≤ℤ x → x <ℤ z → In x us ⊎ In x cs
 
--- The lists of n values at a sort with these constants, by its kind. At a free sort there is one, of all different
--- values; at an equal one there is one for each way to put the values into blocks, each at a constant or at none; at an
--- ordered one there are the representatives of the order types. Each list of them rises.
+-- The lists of n values at a sort with these constants, by its kind. At a free sort there is one list, of all different
+-- values. At an equal sort there is a list for each way to put the values into blocks, each block at a constant or at
+-- none. At an ordered sort there are the representatives of the order types. The lists rise.
 abbrev pub AreListsAt : Kind → List ℤ → ℕ → List (List ℤ) → Type 0
 AreListsAt free cs n ls = (us : List ℤ) × (length us ≡ n) × AreFirstNumbers cs us × (ls ≡ us ∷ [])
 AreListsAt equal cs n ls =
@@ -36,7 +36,7 @@ AreListsAt equal cs n ls =
     × RisesBy (λ r t. slice_cmp int_cmp r t ≡ Less) ls
 AreListsAt ordered cs n ls = AreTypes n cs ls
 
--- the lists there are more than the limit
+-- there are more lists of n values at the sort than the limit
 abbrev pub MoreListsThan : ℕ → Kind → List ℤ → ℕ → Type 0
 MoreListsThan limit kind cs n = (ls : List (List ℤ)) × AreListsAt kind cs n ls × (limit < length ls)
 
@@ -71,8 +71,8 @@ pub record AreSortedCases (s : Sorts) (rules : List Rule) (o : Overlap) (cs : Li
   pub listed : (HasNoUnifier (all_equations rule1 rule2 o.matching.items) × (cs ≡ []))
       ⊎ AreSortedListed s o rule1 rule2 cs
 
--- under a most general unifier of these equations: n classes are bound to no constant, and there are too many
--- combinations
+-- under a most general unifier of the matched heads and of both guards' equations: n classes are bound to no constant,
+-- and there are too many combinations
 pub record HasTooManyCombinations (s : Sorts) (rules : List Rule) (o : Overlap) (n : ℕ) : Type 0 where
   pub rule1 : Rule
   pub rule2 : Rule

@@ -39,7 +39,7 @@ fn only_ordered(sorting: &Sorting, classes: &[usize]) -> Option<usize>
     }
 }
 
-/// Constants in memory are values of 64 bits, and leave room for more. Nothing is computed here.
+/// Constants in memory are 64-bit values, and leave room for more. Nothing is computed here.
 fn leave_room(sorting: &Sorting, classes: &[usize])
     ensures { LeaveRoom (sorts_of sorting.now) (length classes.now) classes.now }
 {
@@ -81,10 +81,11 @@ fn sort_lists(
 }
 
 /// Visits all combinations of one list at each of the classes' sorts, in lexicographic order, up to the first visit
-/// that stops the walk, and tells whether one did. There are no more than the limit: [`has_more_combinations`] tells.
+/// that stops the walk, and tells whether one did. There must not be more than `limit` combinations:
+/// [`has_more_combinations`] tells.
 ///
-/// The constants of each sort rise, as those of finest sorts do. The lists of each sort are held, and no combinations;
-/// where all classes are of one ordered sort no list is.
+/// The constants of each sort rise, as those of finest sorts do. The lists of each sort are held in memory, but no list
+/// of combinations; where all classes are of one ordered sort, no list is held.
 ///
 /// # Errors
 ///
@@ -115,7 +116,7 @@ pub fn visit_combinations<V: Visit>(
     weave(alloc, classes, &mut lists, &[], visitor)
 }
 
-/// Whether there are more combinations than the limit.
+/// Whether there are more than `limit` combinations.
 ///
 /// The constants of each sort rise, as those of finest sorts do. The walk stops once the limit is passed.
 ///

@@ -31,7 +31,7 @@ pub(crate) fn bound(notes: &[Note]) -> usize
     bound
 }
 
-/// The same with one sort in place of another.
+/// The sorts with `low` in place of `high`.
 fn merged(alloc: Global, sorts: &[usize], low: usize, high: usize) -> Result<Vec<usize>, AllocError>
     ensures { IfOk result (λ all. all.items ≡ map (merged low high) sorts.now) }
 {
@@ -41,7 +41,7 @@ fn merged(alloc: Global, sorts: &[usize], low: usize, high: usize) -> Result<Vec
         .collect(alloc)
 }
 
-/// Each position alone.
+/// A sort for each position, which is its own number.
 fn alone(alloc: Global, positions: usize) -> Result<Vec<usize>, AllocError>
     ensures { IfOk result (λ all. all.items ≡ range_with_len 0 positions) }
 {
@@ -52,7 +52,7 @@ fn alone(alloc: Global, positions: usize) -> Result<Vec<usize>, AllocError>
     Ok(all)
 }
 
-/// The same with the sorts of two positions joined.
+/// The sorts with those of two positions joined.
 fn with_pair(alloc: Global, sorts: &[usize], one: u32, other: u32) -> Result<Vec<usize>, AllocError>
     requires one { one < length sorts.now }
     requires other { other < length sorts.now }

@@ -17,7 +17,7 @@ pub enum Kind {
 }
 
 impl Kind {
-    /// The least kind that tells what this one does, and this sign's answers.
+    /// The least kind that tells the signs that this kind does, and this sign.
     pub(crate) fn raised(self, cmp: Cmp) -> Kind
         ensures { kind_of result ≡ raised (kind_of self) cmp }
     {

@@ -8,7 +8,7 @@ ghost use Rattle.chr_sorting.specs.laws.Lists.{ListsAreOne, ListsExist};
 use chr_sorts::laws::sorted_lists;
 
 /// All combinations of one list at each sort cover: for each list of 64-bit values one of them stands, sort by sort.
-/// They are of 64-bit values, where the sorts' constants are, and there is one list of them, where these rise.
+/// Their values are 64-bit values, where the sorts' constants are. There is one list of them, where the constants rise.
 pub fn combinations()
     ensures cover { CombinationsStandForAll }
     ensures values { CombinationsAreValues }
@@ -17,8 +17,8 @@ pub fn combinations()
     sorted_lists();
 }
 
-/// Each program has finest sorts, and these are one: by any two an overlap has the same sorted cases, or too many
-/// combinations.
+/// Each program has finest sorts, and any two of them are the same: by both an overlap has the same sorted cases, or
+/// too many combinations.
 pub fn finest()
     ensures exist { FinestExist }
     ensures one { FinestAreOne }
@@ -26,7 +26,7 @@ pub fn finest()
     ensures many { FinestHaveAsMany }
 {}
 
-/// At a sort of each kind the lists of so many values have one list, where its constants are rising 64-bit values.
+/// At a sort of each kind the lists of n values have one list, where its constants are rising 64-bit values.
 pub fn lists()
     ensures exist { ListsExist }
     ensures one { ListsAreOne }

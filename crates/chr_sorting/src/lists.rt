@@ -12,7 +12,7 @@ use chr_overlaps::constants::add_constant;
 use chr_types::{MAX_CLASSES, OrderType, TypesFault, types};
 use std::alloc::{AllocError, Global};
 
-/// Numbers in memory are values of 64 bits. Nothing is computed here.
+/// Numbers in memory are 64-bit values. Nothing is computed here.
 pub(crate) fn are_values(numbers: &[i64])
     ensures { AreValues numbers.now }
 {
@@ -112,7 +112,7 @@ fn with_value(alloc: Global, values: &[i64], value: i64) -> Result<Vec<i64>, All
     Ok(more)
 }
 
-/// The list with this value behind it.
+/// The list with this value at its end.
 fn longer(alloc: Global, begun: &[i64], value: i64) -> Result<Vec<i64>, AllocError>
     ensures { IfOk result (λ more. more.items ≡ begun.now ++ value ∷ []) }
 {
@@ -121,9 +121,9 @@ fn longer(alloc: Global, begun: &[i64], value: i64) -> Result<Vec<i64>, AllocErr
     Ok(more)
 }
 
-/// Adds the lists that begin so and go on with so many more values, each one of the choices or the next of the numbers,
-/// which is a choice from then on. They rise. Tells whether there would be more lists than the limit; some may be added
-/// then.
+/// Adds the lists that begin with `begun` and go on with `left` more values, each one of the choices or the next of the
+/// numbers, which is a choice from then on. The lists rise. Tells whether there would be more lists than the limit;
+/// some may be added then.
 fn add_lists(
     alloc: Global,
     choices: &[i64],
@@ -178,7 +178,7 @@ fn equal_lists(
     ensures within { IfOk result (λ found. IfSome found (λ ls. length ls.items ≤ limit)) }
     ensures more { IfOk result (λ found. IfNone found (MoreListsThan limit equal constants.now count)) }
 {
-    // of so many values there are more lists than any limit, and no search for the first is begun
+    // of more than MAX_CLASSES values there are more lists than any limit, so no search for the first is begun
     if count > MAX_CLASSES {
         return Ok(None);
     }

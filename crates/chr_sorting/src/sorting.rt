@@ -54,10 +54,10 @@ fn constants(alloc: Global, notes: &[Note], sorts: &[usize]) -> Result<Vec<Vec<i
     Ok(found)
 }
 
-/// The finest sorts that fit the program's rules: two positions are of one sort where one variable of a rule stands at
-/// both, in heads or in the body, or where variables at them are compared by a guard, and where this follows. A sort
-/// has the constants that stand at its positions and those with which a guard compares its variables, and the least
-/// kind that tells the signs by which its values are compared.
+/// The finest sorts that fit the program's rules. Two positions are of one sort where one variable of a rule stands at
+/// both, in heads or in the body, where variables at them are compared by a guard, and where this follows from such
+/// pairs. A sort has the constants that stand at its positions, and those with which a guard compares its variables. It
+/// has the least kind that tells the signs by which its values are compared.
 ///
 /// # Errors
 ///

@@ -1,4 +1,4 @@
--- The lists of each kind cover, and so do all combinations of them.
+-- The lists of each kind cover, and all combinations of them cover all sorts.
 use Rattle.std.specs.List.{zip}
 use Rattle.std.specs.Prelude.{◌≡◌, ℕ, suc, ℤ, pos, ◌≤◌, true, false, cond, nat_eq, ◌↔◌, ◌⊎◌, List, [], ◌∷◌, length}
 use Rattle.std.proofs.Common.{refl, sym, ap, subst, ◌∙◌, inl, inr, arith}
@@ -48,11 +48,11 @@ order_types_cover cs n rs types vs count values = types.complete vs count values
 
 -- ---- blocks
 
--- the two pairs are alike on both sides
+-- the first parts of the two pairs are equal just where their second parts are
 abbrev Together : ℤ × ℤ → ℤ × ℤ → Type 0
 Together p q = (p.0 ≡ q.0) ↔ (p.1 ≡ q.1)
 
--- a constant stands for itself, and another value for one that is none
+-- the pair is of a constant twice, or of two values that are no constants
 abbrev IsProper : List ℤ → ℤ × ℤ → Type 0
 IsProper cs p = (In p.0 cs × (p.0 ≡ p.1)) ⊎ ((In p.0 cs → ⊥) × (In p.1 cs → ⊥))
 
@@ -62,7 +62,7 @@ turned p q h = (λ e. sym (h.0 (sym e)), λ e. sym (h.1 (sym e)))
 itself : (p : ℤ × ℤ) → Together p p
 itself p = (λ e. refl, λ e. refl)
 
--- a constant beside another proper pair
+-- a pair of a constant and another proper pair are equal in both parts or in none
 constant_beside : (cs : List ℤ) (v : ℤ) (q : ℤ × ℤ) → In v cs → IsProper cs q → Together (v, v) q
 constant_beside cs v q i (inl h) = (λ e. e ∙ h.1, λ e. e ∙ sym h.1)
 constant_beside cs v q i (inr h) = (
@@ -119,7 +119,7 @@ record Blocks (cs ns : List ℤ) (seen : List (ℤ × ℤ)) (vs : List ℤ) : Ty
   together : (p q : ℤ × ℤ) → In p (zip us vs) → In q (zip us vs) → Together p q
   beside : (p q : ℤ × ℤ) → In p (zip us vs) → In q seen → Together p q
 
--- one value more, which is proper and alike to all others
+-- one value more, whose pair is proper, and which is equal in both parts or in none to each pair before and after
 more_blocks : (cs ns : List ℤ) (seen : List (ℤ × ℤ)) (u v : ℤ) (vs : List ℤ) (ns' : List ℤ) (seen' : List (ℤ × ℤ))
     (b : Blocks cs ns' seen' vs) → AreBlocks cs (firsts seen) ns (u ∷ b.us) → IsProper cs (u, v)
     → ((q : ℤ × ℤ) → In q (zip b.us vs) → Together (u, v) q) → ((q : ℤ × ℤ) → In q seen → Together (u, v) q)

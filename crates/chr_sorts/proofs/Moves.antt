@@ -125,7 +125,8 @@ answers_kept free AtMost f d keeps t x y i j h = absurd (true≢false (sym t))
 answers_kept free Greater f d keeps t x y i j h = absurd (true≢false (sym t))
 answers_kept free AtLeast f d keeps t x y i j h = absurd (true≢false (sym t))
 
--- and those of a guard that holds at the mapped values, where its equations are met
+-- at the values before the map the answers are those at the mapped values, where a comparison for equal ones holds
+-- before it
 pub answers_back : (k : Kind) (c : Cmp) (f : ℤ → ℤ) (d : ℤ → Bool) → KeepsKind k f d → tells k c ≡ true → (x y : ℤ)
     → d x ≡ true → d y ≡ true → (c ≡ Equal → x ≡ y) → compares c (int_cmp (f x) (f y)) ≡ true → compares c (int_cmp x y)
     ≡ true

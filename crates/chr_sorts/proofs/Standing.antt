@@ -15,7 +15,7 @@ use Rattle.chr_sorts.specs.Sorts.{Sorts, Kind, ordered, equal, free}
 use Rattle.chr_sorts.specs.Maps.{Map, Sets, KeepsKind, IsSortedMap}
 use Rattle.chr_sorts.specs.Lists.{AtMostEqual, SamePartition, StandsAt, values_at, StandsFor}
 
--- whatever the kind, equal ones stand for equal ones
+-- of every kind of sort, equal values stand for equal values
 pub at_most : (k : Kind) (cs us vs : List ℤ) → StandsAt k cs us vs → AtMostEqual cs us vs
 at_most ordered cs us vs s = record {
   count = s.count;
@@ -80,7 +80,7 @@ one_of ps cs x h = elim (or_cases (list_any (λ (p : ℤ × ℤ). int_eq x p.0) 
       | inr t ↦ inr (in_constants x cs t)
     ]
 
--- the map between lists of one partition keeps values apart
+-- where both lists are equal in the same places, the map between them keeps values apart
 module _ (cs us vs : List ℤ) (s : SamePartition cs us vs) where
   some : AtMostEqual cs us vs
   some = at_most equal cs us vs s

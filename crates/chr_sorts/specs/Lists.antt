@@ -4,13 +4,13 @@ use Rattle.std.specs.Prelude.{◌≡◌, ℕ, suc, ℤ, ⊤, ◌↔◌, ◌⊎�
 use Rattle.chr_types.specs.OrderTypes.{In, RisesBy, SameType, AreValues}
 use Rattle.chr_sorts.specs.Sorts.{Sorts, Kind, ordered, equal, free}
 
--- us are equal, to each other and to the constants, just where vs are
+-- two of us, or one and a constant, are equal just where those of vs in their places are
 pub record SamePartition (constants us vs : List ℤ) : Type 0 where
   pub count : length us ≡ length vs
   pub classes : (p q : ℤ × ℤ) → In p (zip us vs) → In q (zip us vs) → (p.0 ≡ q.0) ↔ (p.1 ≡ q.1)
   pub against : (p : ℤ × ℤ) (c : ℤ) → In p (zip us vs) → In c constants → (p.0 ≡ c) ↔ (p.1 ≡ c)
 
--- us are equal, to each other and to the constants, only where vs are
+-- two of us, or one and a constant, are equal only where those of vs in their places are
 pub record AtMostEqual (constants us vs : List ℤ) : Type 0 where
   pub count : length us ≡ length vs
   pub classes : (p q : ℤ × ℤ) → In p (zip us vs) → In q (zip us vs) → p.0 ≡ q.0 → p.1 ≡ q.1
@@ -23,7 +23,7 @@ StandsAt ordered cs us vs = SameType cs us vs
 StandsAt equal cs us vs = SamePartition cs us vs
 StandsAt free cs us vs = AtMostEqual cs us vs
 
--- of values whose sorts are ks those of the sort k
+-- the values of the sort k among values whose sorts are ks
 abbrev pub values_at : ℕ → List ℕ → List ℤ → List ℤ
 values_at k [] zs = []
 values_at k (j ∷ ks) [] = []
@@ -58,7 +58,7 @@ AreBlocks cs before [] (z ∷ zs) = (In z cs ⊎ In z before) × AreBlocks cs be
 AreBlocks cs before (n ∷ ns) (z ∷ zs) =
     ((In z cs ⊎ In z before) × AreBlocks cs before (n ∷ ns) zs) ⊎ ((z ≡ n) × AreBlocks cs (n ∷ before) ns zs)
 
--- how many of the sorts are k
+-- how often the sort k stands in the list
 abbrev pub sort_count : ℕ → List ℕ → ℕ
 sort_count k [] = 0
 sort_count k (j ∷ ks) = if nat_eq j k then suc (sort_count k ks) else sort_count k ks

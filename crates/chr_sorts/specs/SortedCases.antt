@@ -50,8 +50,8 @@ joint_sort o r1 r2 x = if nat_le x (variables_of r1) then sort_of o r1 x else so
 abbrev pub class_sorts : Sorts → Substitution → Rule → Rule → List ℕ
 class_sorts o σ r1 r2 = map (joint_sort o r1 r2) (free_variables σ r1 r2)
 
--- The overlap's equations and those of the guards have no unifier, or some lists of values of the free classes cover
--- all, and the case at each of them at which both guards hold is joinable.
+-- The overlap's equations and those of the guards have no unifier. Or some lists of values of the free classes cover
+-- all, and at each of these lists at which both guards hold the case is joinable.
 abbrev pub SortedOverlapIsJoinable : Sorts → List Rule → Rule → Rule → List ℕ → Type 0
 SortedOverlapIsJoinable o rules r1 r2 m =
     HasNoUnifier (all_equations r1 r2 m)
@@ -59,7 +59,7 @@ SortedOverlapIsJoinable o rules r1 r2 m =
     × Cover o (class_sorts o σ r1 r2) rs
     × ((zs : List ℤ) → In zs rs → guards_hold σ r1 r2 zs ≡ true → ListedCaseIsJoinable rules r1 r2 m σ zs))
 
--- so it is of each overlap of the rules; each rule is overlapped with those from itself on
+-- each overlap of the rules is joinable; each rule is overlapped with those from itself on
 abbrev pub SortedAreJoinable : Sorts → List Rule → Type 0
 SortedAreJoinable o rules =
     (i j : ℕ) (r1 r2 : Rule) → slice_get rules i ≡ Some r1 → slice_get rules j ≡ Some r2 → i ≤ j

@@ -35,11 +35,11 @@ abbrev pub sorted_terms : Sorts → List Pattern → List (ℕ × Term)
 sorted_terms o [] = []
 sorted_terms o (p ∷ ps) = terms_from (o.sort p.symbol.0) 0 p.args.items ++ sorted_terms o ps
 
--- those of a rule's heads and of its body
+-- all arguments of a rule's heads and of its body, each with the sort of its position
 abbrev pub sorted_rule_terms : Sorts → Rule → List (ℕ × Term)
 sorted_rule_terms o r = sorted_terms o (heads_of r) ++ sorted_terms o r.body.items
 
--- the sort with which the variable stands there first
+-- the sort with which the variable stands first in the list
 abbrev pub first_sort : List (ℕ × Term) → ℕ → ℕ
 first_sort [] x = 0
 first_sort (p ∷ ps) x = if is_variable x p.1 then p.0 else first_sort ps x

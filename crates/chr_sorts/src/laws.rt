@@ -7,9 +7,9 @@ ghost use Rattle.chr_sorts.specs.laws.SortedLists.{NewValuesCover, BlocksCover, 
 ghost use Rattle.chr_sorts.specs.laws.SortedCases.{EveryCaseIsSorted, SortedAreCases, SortedHaveValues, SortedSuffice};
 ghost use Rattle.chr_sorts.specs.laws.SortedCases.{SortedMakeConfluent, FailingSortedRefutes};
 
-/// Images. A map of atoms gives each store an image, atom by atom, with equal ones added up. It carries a step to a
-/// step where it takes each head and body atom of the instance to that of another one whose guard holds; so a map of
-/// values does, by position and value, which changes atoms argument by argument. It need not be injective.
+/// Images. A map of atoms gives each store an image, atom by atom, in which atoms that become equal are added up. It
+/// carries a step to a step where it takes each head and body atom of the instance to that of another instance whose
+/// guard holds. Maps that change each argument by its position and value can do this. They need not be injective.
 pub fn carry()
     ensures lists { ListsHaveImages }
     ensures sums { ImagesAdd }
@@ -21,9 +21,9 @@ pub fn carry()
 {}
 
 /// Sorted maps. Sorts that fit rules join all positions at which one variable of a rule stands, in heads or in the
-/// body, and those of two variables that a guard compares. A sorted map has a map of values for each sort, which fixes
-/// the constants of the sort, keeps the order of values where the program looks at it, keeps them apart where it looks
-/// at no more than that, and else is any map. It carries each step, and steps keep values within their sorts.
+/// body, and those of two variables that a guard compares. A sorted map has a map of values for each sort. This fixes
+/// the constants of the sort, and keeps of its values what the program compares: their order, or which of them are
+/// equal, or nothing. A sorted map carries each step, and steps keep values within their sorts.
 pub fn sorted_maps()
     ensures values { SortsStay }
     ensures steps { SortedStepsAreCarried }
@@ -31,9 +31,9 @@ pub fn sorted_maps()
     ensures joins { SortedJoinsAreCarried }
 {}
 
-/// Lists of values that cover. At a free sort one list does, of different values that are no constants; at an equal
-/// sort one for each way to put the values into blocks, each block at a constant or at none; at an ordered sort the
-/// representatives of the order types. And all combinations of one list for each sort cover all sorts.
+/// Lists of values that cover. At a free sort one list covers, of different values that are no constants; at an equal
+/// sort one list for each way to put the values into blocks, each block at a constant or at none; at an ordered sort
+/// the representatives of the order types. All combinations of one list for each sort cover all sorts.
 pub fn sorted_lists()
     ensures free { NewValuesCover }
     ensures equal { BlocksCover }
@@ -41,10 +41,10 @@ pub fn sorted_lists()
     ensures combinations { CombinationsCover }
 {}
 
-/// The sorted cases of an overlap are those at lists of values of its free classes that cover, sort by sort, all lists
-/// of 64-bit values, and at which both guards hold. The classes are those of the matching's equations and of the `=:=`
-/// of both guards. They suffice: every case of 64-bit values is the image of one of them under a sorted map, with its
-/// store and both its sides. And each is a case, of 64-bit values where the listed values are such.
+/// The sorted cases of an overlap are those at some lists of values of its free classes, at which both guards hold. The
+/// classes are those of the matching's equations and of the `=:=` of both guards. The lists cover, sort by sort, all
+/// lists of 64-bit values. So sorted cases suffice: every case of 64-bit values is the image of one of them under a
+/// sorted map, with its store and both its sides. Each of them is a case, of 64-bit values where the listed values are.
 pub fn sorted_cases()
     ensures every { EveryCaseIsSorted }
     ensures cases { SortedAreCases }
@@ -52,7 +52,7 @@ pub fn sorted_cases()
     ensures suffice { SortedSuffice }
 {}
 
-/// So for rules that lower a weight the sorted cases decide confluence: the rules are confluent where each sorted case
+/// The sorted cases decide confluence of rules that lower a weight: the rules are confluent where each sorted case
 /// joins, and are not where the sides of one have different normal forms.
 pub fn sorted_confluence()
     ensures confluent { SortedMakeConfluent }

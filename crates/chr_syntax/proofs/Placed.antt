@@ -13,7 +13,7 @@ use Rattle.chr_syntax.specs.working.Tokens.{token_at, tokens_after}
 use Rattle.chr_syntax.proofs.Lexed.{tokens_found}
 use Rattle.chr_syntax.proofs.Lexing.{at_layout, at_token, at_none}
 
--- those found so far, before the tokens of the bytes from a place on
+-- the tokens found so far, and behind them those of the bytes from a place on
 abbrev pub placed_so_far : List (Option Tok) → List ℕ → ℕ → Option (List (Option Tok))
 placed_so_far xs bs at = front xs (option_map (map Some) (tokens_after 0 (drop at bs)))
 

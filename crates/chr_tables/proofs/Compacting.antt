@@ -57,7 +57,7 @@ moved_more cs ds to from j c l h e f = record {
       | inr most ↦ absurd (p (omega (arith, m, most)))
     ]
 
--- all columns have
+-- each column has the value of the one row in the other
 pub all_moved : (cs ds : List (List ℤ)) (to from n : ℕ) → length ds ≤ n → HaveMoved cs ds to from n → (k : ℕ)
     → cell_value cs k to ≡ cell_value ds k from
 all_moved cs ds to from n l h k = elim (cases_lt k n) as (λ _. cell_value cs k to ≡ cell_value ds k from) [

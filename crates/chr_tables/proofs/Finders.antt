@@ -33,7 +33,7 @@ IsWide column band range = (x : ℤ) → (column ≡ band.column → IsIn band.r
 abbrev pub IsNarrow : ℕ → Band → Range → Type 0
 IsNarrow column band range = column ≡ band.column → (x : ℤ) → IsIn range x → IsIn band.range x
 
--- by the hash alone
+-- what an index by the hash alone finds
 pub chained_found : (index : Listed) (h : ℕ) (span : Span) (r : ℕ) → HasHash index.rows h r
     → IsFinderRow (Chained index) h span r
 chained_found index h span r e = (
@@ -50,7 +50,7 @@ found_chained index h span r s =
     let m = found_of hashed index.rows r s.0 s.1 in
     m.1 ∙ ap Some (ap (λ (e : Found). e.hash) m.2 ∙ s.2)
 
--- and by a value
+-- what an index by the hash and a value finds
 module _ (column : ℕ) (index : ListedEntries) (h : ℕ) (span : Span) (range : Range) (r : ℕ) where
   pub ranged_found : IsNarrow column span.first range → IsWanted index.rows h range r
       → IsFinderRow (Ranged column index) h span r
@@ -73,7 +73,7 @@ module _ (column : ℕ) (index : ListedEntries) (h : ℕ) (span : Span) (range :
             (s.3 (ap Some e))),
       )
 
--- and by two
+-- what an index by the hash and two values finds
 module _ (one two : ℕ) (index : ListedPairs) (h : ℕ) (span : Span) (first second : Range) (r : ℕ) where
   pub crossed_found : IsNarrow one span.first first → IsNarrow two span.second second
       → IsCrossed index.rows h first second r → IsFinderRow (Crossed one two index) h span r

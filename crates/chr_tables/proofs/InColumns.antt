@@ -106,7 +106,7 @@ column_put cs j c n l e k i h = elim (cases_lt k j) as (λ _. cell_value (set cs
   ]
 ]
 
--- with one value more in a row
+-- where the first j columns have a row's values, and column j gets its value, the first j + 1 have them
 pub values_put : (cs : List (List ℤ)) (j : ℕ) (c : List ℤ) (row : ℕ) (xs : List ℤ) → j < length cs
     → ((k : ℕ) → k < j → cell_value cs k row ≡ get_or xs k (pos 0))
     → get_or c row (pos 0) ≡ get_or xs j (pos 0) → (k : ℕ) → k < j + 1 → cell_value (set cs j c) k row

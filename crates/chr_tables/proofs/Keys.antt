@@ -93,7 +93,7 @@ module _ (rows : List (Option Atom)) (ways : List Way) (entries : List (List (Op
       let here : slice_get (order_in f) j ≡ Some band.column = ap (λ o. slice_get o j) (order ∙ sym there) ∙ at in
       subst (IsIn band.range) (sym (value_is order j band.column a e is here)) (has here)
 
-  -- and finds what has the key and lies in the span
+  -- the index finds each row that has the key and lies in the span
   pub sought : (span : Span) → order_in f ≡ way.order → (r : ℕ) → HasKey (slice_get (map (λ w. w.columns) ways) i) key
       (get_or rows r None) → LiesIn span (get_or rows r None)
       → IsFinderRow f h span r
@@ -109,7 +109,7 @@ module _ (rows : List (Option Atom)) (ways : List Way) (entries : List (List (Op
         has_value order 1 span.second x.0 w.0 x.2 in_span.1,
       )
 
-  -- what it finds lies in the bands of its order's columns
+  -- what the index finds lies in the bands of the columns of its order
   pub lies : (span : Span) → order_in f ≡ way.order → (r : ℕ) → IsFinderRow f h span r
       → LiesBy (get_or (map (λ w. w.order) ways) i []) span (get_or rows r None)
   lies span order r s =

@@ -32,7 +32,7 @@ live_of (x ∷ as') [] r a d e = cc
 live_of (x ∷ as') (b ∷ bs) zero a d e = (omega arith, some_cond b x a e)
 live_of (x ∷ as') (b ∷ bs) (suc r) a d e = let w = live_of as' bs r a d e in (let l = w.0 in omega (arith, l), w.1)
 
--- a row that lives has a number of 32 bits, and so has the next
+-- a row that lives has a number of 32 bits, and the row after it does
 pub few_rows : (as' : List Atom) (bs : List Bool) (r : ℕ) (a : Atom) → length as' < 2 ^ 32 → get_or (live as' bs) r None
     ≡ Some a → r + 1 < 2 ^ 32
 few_rows as' bs r a few e = let w = live_of as' bs r a a e in let l = w.0 in omega (arith, l, few)
@@ -101,7 +101,7 @@ pub as_many : (rows : List (Option Atom)) (ways : List Way) (entries : List (Lis
     → length (get_or entries j []) ≡ length rows
 as_many rows ways entries h j l = ap length (h j l) ∙ length-map rows (entry_in (get_or ways j no_way))
 
--- and no more than a number of 32 bits tells
+-- where the rows of the table and one more are fewer than 2^32, those of each index and one more are
 pub each_few : (atoms : List Atom) (alive : List Bool) (dead : ℕ) (ks : List Keyed) → IsTable atoms alive dead ks
     → length atoms + 1 < 2 ^ 32 → (j : ℕ) → j < length ks
     → length (get_or (keyed_entries ks) j []) + 1 < 2 ^ 32

@@ -15,12 +15,12 @@ table_there tables t i e = elim (cases_lt t (length tables)) as (λ _. t < lengt
       ap (λ (x : Contents). is_some (slice_get x.keys i)) (get_or_past tables t no_table most) in cc)
 ]
 
--- and the one that the code reads is it
+-- the table that the code reads is the one of that number
 pub table_is : (tables : List Contents) (t i : ℕ) (x : Contents) → is_some (index_columns tables t i) ≡ true
     → x ≡ get_or tables t x → x ≡ get_or tables t no_table
 table_is tables t i x e f = f ∙ get_or_default tables t x no_table (table_there tables t i e)
 
--- with an index of it
+-- the table that the code reads has the index
 pub index_there : (tables : List Contents) (t i : ℕ) (x : Contents) → is_some (index_columns tables t i) ≡ true
     → x ≡ get_or tables t x → i < length x.keys
 index_there tables t i x e f =

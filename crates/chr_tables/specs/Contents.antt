@@ -6,8 +6,7 @@ use Rattle.chr_plans.specs.declared.key.Span.{Span}
 use Rattle.chr_plans.specs.Keys.{IsInBand}
 use Rattle.chr_plans.specs.Rows.{Tables, Columns}
 
--- the atom of each row, or None where the row is dead; of each index its columns, and the columns by whose values it
--- leaves rows behind
+-- the atom of each row, or None where the row is dead; of each index its columns, and the columns of its order
 pub record Contents : Type 0 where
   pub rows : List (Option Atom)
   pub keys : List (List ℕ)
@@ -33,7 +32,7 @@ HasArgument column value row = (a : Atom) × (row ≡ Some a) × (slice_get a.ar
 abbrev pub IsInBandBy : List ℕ → ℕ → Band → Atom → Type 0
 IsInBandBy order j band a = slice_get order j ≡ Some band.column → IsInBand band a
 
--- the row lives, and is in those bands of the span by which such an index leaves rows behind
+-- the row lives, and is in those bands of the span that are of columns of the order
 abbrev pub LiesBy : List ℕ → Span → Option Atom → Type 0
 LiesBy order span row =
     (a : Atom) × (row ≡ Some a) × IsInBandBy order 0 span.first a × IsInBandBy order 1 span.second a

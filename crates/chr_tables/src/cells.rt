@@ -31,7 +31,7 @@ impl Model for Column {
     ghost invariant = { λ c. HoldsValues c.values.items };
 }
 
-/// The first place from `from` on that has this value. Eight places are compared at a time.
+/// The first place from `from` on that has the value. Eight places are compared at a time.
 fn first_equal(values: &[i64], value: i64, from: usize) -> Option<usize>
     requires values { HoldsValues values.now }
     requires from { from ≤ length values.now }
@@ -49,7 +49,7 @@ fn first_equal(values: &[i64], value: i64, from: usize) -> Option<usize>
 }
 
 impl Column {
-    /// The one of no rows.
+    /// The column of no rows.
     fn new(alloc: Global) -> Column
         ensures { result ≡ [] }
     {
@@ -100,7 +100,7 @@ impl Column {
         }
     }
 
-    /// Puts a value into a row, which is then the last. Where memory is refused the rows before it are the same.
+    /// Puts a value into a row, which is then the last. Where memory is refused the rows before it stay the same.
     fn put(&mut self, row: usize, value: i64) -> Result<(), AllocError>
         ensures before { (i : ℕ) → i < row → get_or self.new i (pos 0) ≡ get_or self.old i (pos 0) }
         ensures ok { OnOk result (get_or self.new row (pos 0) ≡ value) }
@@ -112,7 +112,7 @@ impl Column {
     }
 }
 
-/// The arguments become those of a row, so many of them.
+/// `args` become the first `count` arguments of a row.
 fn read_arguments(columns: &[Column], row: usize, count: usize, args: &mut ArrayVec<i64, MAX_ARITY>)
     requires columns { count ≤ length columns.now }
     requires few { count ≤ MAX_ARITY }
@@ -150,8 +150,8 @@ fn move_arguments(columns: &mut [Column], to: usize, from: usize)
     }
 }
 
-/// Atoms in rows: for each its symbol and number of arguments, and a column for each argument. No column is longer
-/// than the atoms need that have the argument.
+/// Atoms in rows: for each its symbol and number of arguments, and a column for each argument. A column grows only with
+/// atoms that have the argument.
 #[derive(Drop)]
 pub(crate) struct Cells {
     shapes: Vec<Shape>,
@@ -169,7 +169,7 @@ impl Model for Cells {
 }
 
 impl Cells {
-    /// The one of no rows.
+    /// The cells of no rows.
     pub(crate) fn new(alloc: Global) -> Cells
         ensures { result ≡ [] }
     {
@@ -236,14 +236,14 @@ impl Cells {
         move_arguments(&mut self.columns, to, from);
     }
 
-    /// Only the first rows stay, so many of them.
+    /// Keeps only the first `count` rows.
     pub(crate) fn truncate(&mut self, count: usize)
         ensures { self.new ≡ take count self.old }
     {
         self.shapes.truncate(count);
     }
 
-    /// One more row, the last; or no change where memory is refused.
+    /// Adds a row, the last. Where memory is refused nothing changes.
     pub(crate) fn push(&mut self, atom: &Atom) -> Result<(), AllocError>
         ensures ok { OnOk result (self.new ≡ self.old ++ atom.now ∷ []) }
         ensures err { OnErr result (self.new ≡ self.old) }

@@ -26,12 +26,12 @@ pub(crate) fn argument(atom: &Atom, column: usize) -> i64
 pub(crate) enum Finder {
     /// By the hash alone.
     Chained(chr_indexes::hashes::Index),
-    /// And by the values in one column, counted from 0.
+    /// By the hash and the values in one column, counted from 0.
     Ranged {
         column: usize,
         index: chr_indexes::ranges::Index,
     },
-    /// And by the values in two columns.
+    /// By the hash and the values in two columns, counted from 0.
     Crossed {
         first: usize,
         second: usize,
@@ -52,7 +52,7 @@ fn range_for(column: usize, band: Band) -> Range
 }
 
 impl Finder {
-    /// The one of no rows, by the values in the order's columns.
+    /// The finder of no rows, by the hash and the values in the order's columns.
     pub(crate) fn new(alloc: Global, order: Order) -> Result<Finder, AllocError>
         ensures order { IfOk result (λ f. order_in f ≡ columns_by order) }
         ensures rows { IfOk result (λ f. finder_rows f ≡ []) }
@@ -85,7 +85,7 @@ impl Finder {
         }
     }
 
-    /// One more row, the newest.
+    /// Adds a row, the newest.
     pub(crate) fn push(&mut self, hash: u32, atom: &Atom)
         requires room { length (finder_rows self.old) < room_in self.old }
         requires few { length (finder_rows self.old) + 1 < 2 ^ 32 }
@@ -153,7 +153,7 @@ impl Finder {
         }
     }
 
-    /// The same, below this row.
+    /// Like [`Finder::first`], but below `row`.
     pub(crate) fn next(&mut self, hash: u32, span: &Span, row: u32) -> Option<u32>
         ensures same { self.new ≡ self.old }
         ensures below { IfSome result (λ next. next < row) }
@@ -178,7 +178,7 @@ impl Finder {
         }
     }
 
-    /// The same, at this row or below it. The row itself may be dead, or past the last.
+    /// Like [`Finder::first`], but at `row` or below it. The row may be dead, or past the last.
     pub(crate) fn at_or_below(&mut self, hash: u32, span: &Span, row: u32) -> Option<u32>
         ensures same { self.new ≡ self.old }
         ensures at_or_below { IfSome result (λ next. next ≤ row) }

@@ -15,7 +15,7 @@ fn mix(word: u64) -> u64
     twice ^ (twice >> 31)
 }
 
-/// These values in a hash.
+/// The hash of the values in `key` after those before, whose hash is `state`.
 fn mixed(state: u64, key: &[i64]) -> u64
     ensures { result ≡ mixed state key.now }
 {
@@ -25,9 +25,9 @@ fn mixed(state: u64, key: &[i64]) -> u64
     }
 }
 
-/// The hash of a key: 32 bits, in each of which all bits of the seed and of each value have a part. It is a function of
-/// these and no more. It is no cryptographic hash: a seed that is drawn for each process keeps keys that were chosen
-/// before it was known from meeting more often than others, and no more.
+/// The hash of a key: 32 bits, each of which depends on all bits of the seed and of each value, and on nothing else. It
+/// is no cryptographic hash. A seed that is drawn for each process only keeps keys that were chosen before it was known
+/// from having one hash more often than other keys.
 pub fn key_hash(seed: u64, key: &[i64]) -> u32
     ensures { result ≡ key_hash seed key.now }
 {

@@ -66,7 +66,7 @@ pub(crate) fn reserve_in(indexes: &mut [Keyed]) -> Result<(), AllocError>
     Ok(())
 }
 
-/// One more row in each index, for this atom.
+/// Adds a row to each index, for this atom.
 pub(crate) fn push_in(indexes: &mut [Keyed], atom: &Atom)
     requires room { (j : ℕ) → j < length indexes.old →
         length (get_or (keyed_entries indexes.old) j []) < get_or (rooms_of indexes.old) j 0 }
@@ -96,7 +96,7 @@ pub(crate) fn clear_in(indexes: &mut [Keyed])
     }
 }
 
-/// All of these atoms enter each index, which has no rows.
+/// Adds a row to each index for each of these atoms. The indexes have no rows before.
 pub(crate) fn enter_all(atoms: &Cells, indexes: &mut [Keyed])
     requires few { length atoms.now < 2 ^ 32 }
     requires none { (j : ℕ) → j < length indexes.old → get_or (keyed_entries indexes.old) j [] ≡ [] }

@@ -25,10 +25,13 @@ pub const MAX_ROWS: usize = 0xFFFF_FFFF;
 
 /// Atoms in rows, each alive or dead, and indexes of them. A row's number is how many were inserted before it.
 pub struct Table {
+    // The atom of each row, dead ones among them.
     atoms: Cells,
+    // Whether each row lives.
     alive: Vec<bool>,
     /// The number of dead rows.
     dead: usize,
+    // The indexes of all rows, by their numbers.
     indexes: Vec<Keyed>,
 }
 
@@ -77,7 +80,7 @@ fn number_of(row: usize) -> u32
     row.min(MAX_ROWS) as u32
 }
 
-/// The flag of a row says that it is dead. It answers how many died: one, or none where it was dead before.
+/// Marks a row as dead. Answers how many rows died: one, or none where it was dead before.
 fn mark_dead(alive: &mut Vec<bool>, row: usize) -> usize
     requires { row < length alive.old.items }
     ensures flags { alive.new.items ≡ set alive.old.items row false }
@@ -104,7 +107,7 @@ fn keep_live(atoms: &mut Cells, alive: &[bool])
 }
 
 impl Table {
-    /// The one of no rows and no indexes.
+    /// The table of no rows and no indexes.
     pub fn new(alloc: Global) -> Table
         ensures { result ≡ record { rows = []; keys = []; orders = [] } }
     {
@@ -124,8 +127,8 @@ impl Table {
         self.atoms.len()
     }
 
-    /// One more index, by these columns, of a table without rows. Its number is how many there were. Look-ups leave
-    /// rows behind that lie outside a span by the order's columns. Keys are hashed under the seed, on which no answer
+    /// Adds an index by these columns to a table without rows. Its number is how many there were. Look-ups by it leave
+    /// out rows that lie outside a span by the order's columns. Keys are hashed under the seed, on which no answer
     /// depends.
     pub fn add_index(
         &mut self,
@@ -152,7 +155,7 @@ impl Table {
     }
 
     /// The newest row that a look-up of this key and span by an index meets. It meets each live row that has the key
-    /// and lies in the span, and may meet other live rows, whose keys have the same hash; all of them lie in those
+    /// and lies in the span, and may meet other live rows, whose keys have the same hash; each of them lies in those
     /// bands of the span whose columns are those of the index's order.
     pub fn first(&mut self, index: usize, key: &[i64], span: &Span) -> Option<usize>
         requires { index < length self.old.keys }
@@ -172,7 +175,8 @@ impl Table {
         row_of(keyed.index.first(hash, span))
     }
 
-    /// The next one below this row. It is near where a look-up of the same key has met the row.
+    /// Like [`Table::first`], but below `row`. The search begins at the row where that has the hash of the key, and
+    /// else at the newest.
     pub fn next(&mut self, index: usize, key: &[i64], span: &Span, row: usize) -> Option<usize>
         requires { index < length self.old.keys }
         ensures same { self.new ≡ self.old }
@@ -193,8 +197,8 @@ impl Table {
         row_of(keyed.index.next(hash, span, row))
     }
 
-    /// The newest row at this row or below it that a look-up of this key and span meets. The row itself may be dead, or
-    /// past the last. It is near where the look-up has met the row before.
+    /// Like [`Table::first`], but at `row` or below it. The row may be dead, or past the last. The search begins at the
+    /// row where that has the hash of the key, and else at the newest.
     pub fn at_or_below(
         &mut self,
         index: usize,
@@ -221,7 +225,7 @@ impl Table {
         row_of(keyed.index.at_or_below(hash, span, row))
     }
 
-    /// The given atom becomes that of a live row.
+    /// `atom` becomes that of a live row.
     pub fn read(&self, row: usize, atom: &mut Atom)
         requires { IsTrue (is_some (get_or self.now.rows row None)) }
         ensures { get_or self.now.rows row None ≡ Some atom.new }
@@ -300,7 +304,7 @@ impl Table {
         kill_in(&mut self.indexes, row as u32);
     }
 
-    /// Whether there is no room for one row more and half of the rows are dead, or more. Then `compact` pays.
+    /// Whether there is no room for one row more and half of the rows or more are dead. Then `compact` pays.
     pub fn is_half_dead(&self) -> bool
         ensures { OnTrue result (2 * length (filter is_some self.now.rows) ≤ length self.now.rows) }
     {
@@ -321,7 +325,7 @@ impl Table {
         enter_all(&self.atoms, &mut self.indexes);
     }
 
-    /// One more row, the newest; or no change where memory is refused, or the table has `MAX_ROWS` rows.
+    /// Adds a row, the newest. Nothing changes where memory is refused, or where the table has `MAX_ROWS` rows.
     pub fn insert(&mut self, atom: &Atom) -> Result<(), AllocError>
         ensures keys { self.new.keys ≡ self.old.keys }
         ensures orders { self.new.orders ≡ self.old.orders }

@@ -5,7 +5,7 @@ use chr_base::bag::Bag;
 use chr_base::derivation::Step;
 use std::alloc::{AllocError, Global};
 
-/// The symbol at these values, or at no more of them than fit.
+/// The atom of the symbol at these values, of which no more are taken than fit.
 pub fn atom(symbol: u16, values: &[i64]) -> Atom {
     let mut args = ArrayVec::new();
     for value in values {
@@ -57,7 +57,7 @@ pub fn add_copies(store: &mut Bag, atoms: &[Atom]) -> Result<(), AllocError> {
     Ok(())
 }
 
-/// The step of the rule with this number on these heads, or on no more of them than fit.
+/// The step of the rule with this number on these heads, of which no more are taken than fit.
 pub fn step(rule: u32, heads: &[Atom]) -> Step {
     let mut taken = ArrayVec::new();
     for head in heads {

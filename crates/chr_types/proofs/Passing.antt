@@ -53,11 +53,11 @@ drop_own : (p q : List ℤ) → drop (length p) (p ++ q) ≡ q
 drop_own [] q = refl
 drop_own (x ∷ p) q = drop_own p q
 
--- whether a list that begins with p are_admitted behind it
+-- whether each beginning of the list r past p is admitted
 abbrev behind : (List ℤ → Bool) → List ℤ → List ℤ → Bool
 behind t p r = are_admitted t p (drop (length p) r)
 
--- and with one value more
+-- each beginning past p is admitted just where p with one value more is, and each past that
 behind_more : (t : List ℤ → Bool) (p : List ℤ) (v : ℤ) (r q : List ℤ) → r ≡ (p ++ v ∷ []) ++ q → behind t p r
     ≡ (t (p ++ v ∷ []) && behind t (p ++ v ∷ []) r)
 behind_more t p v r q e =
@@ -65,7 +65,7 @@ behind_more t p v r q e =
     ∙ ap (λ z. t (p ++ v ∷ []) && are_admitted t (p ++ v ∷ []) z) (sym (drop_own (p ++ v ∷ []) q))
     ∙ ap (λ z. t (p ++ v ∷ []) && behind t (p ++ v ∷ []) z) (sym e)
 
--- so it is at one candidate, where it is at one more
+-- the walk at one candidate meets the lists that pass, where the walk behind it does
 module _ (t : List ℤ → Bool) (ks : List Candidate) (k : ℕ)
     (deeper_are : (p h : List ℤ) → walked t ks k p h ≡ filter (behind t p) (lists_over ks k p h)) (p h : List ℤ)
     (c : Candidate) where

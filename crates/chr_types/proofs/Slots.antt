@@ -270,13 +270,13 @@ abbrev taken_by : {j k : ℕ} → (j ≡ k) ⊎ (j ≡ k → ⊥) → Begun → 
 taken_by (inl e) b bs = b ∷ bs
 taken_by (inr n) b bs = bs
 
--- those that choose the slot k first, one value further
+-- the lists that choose the slot k first, one value further
 abbrev taken : ℕ → List Begun → List Begun
 taken k [] = []
 taken k ((ps, []) ∷ bs) = taken k bs
 taken k ((ps, v ∷ vs) ∷ bs) = taken_by (same_or_not (slot ps v) k) (added ps v, vs) (taken k bs)
 
--- what a taken one comes from
+-- the list from which a taken one comes
 abbrev Comes : ℕ → List Begun → Begun → Type 0
 Comes k bs b = (ps : List ℤ) × (v : ℤ) × (vs : List ℤ) × In (ps, v ∷ vs) bs × (slot ps v ≡ k) × (b ≡ (added ps v, vs))
 
@@ -327,7 +327,7 @@ taken_on n d j bs are b i =
     let g = as_long w.0 w.1 j w.4 in
     subst (λ (z : Begun). (length z.0 ≡ d) × (length z.1 ≡ n)) (sym w.5) (omega (arith, g, l0), omega (arith, l1))
 
--- those that choose one of the slots up to 2 d, slot by slot
+-- how many lists choose one of the slots up to 2 d, slot by slot
 abbrev taken_up_to : ℕ → List Begun → ℕ
 taken_up_to zero bs = length (taken 0 bs)
 taken_up_to (suc d) bs = taken_up_to d bs + length (taken (suc (d + d)) bs) + length (taken (suc d + suc d) bs)
@@ -336,7 +336,7 @@ none_taken : (d : ℕ) → taken_up_to d [] ≡ 0
 none_taken zero = refl
 none_taken (suc d) = let ih = none_taken d in omega (arith, ih)
 
--- with one more, one more is taken where it chooses that slot
+-- of a list of beginnings with one more in front, one more is taken at the slot k where that one chooses it
 abbrev TakesWhere : ℕ → List ℤ → ℤ → List ℤ → List Begun → Type 0
 TakesWhere k ps v vs bs = (slot ps v ≡ k → length (taken k ((ps, v ∷ vs) ∷ bs)) ≡ suc (length (taken k bs)))
     × ((slot ps v ≡ k → ⊥) → length (taken k ((ps, v ∷ vs) ∷ bs)) ≡ length (taken k bs))
@@ -350,12 +350,12 @@ takes_where k ps v vs bs = by (same_or_not (slot ps v) k)
     by (inl e) = (λ _. refl, λ n. absurd (n e))
     by (inr n) = (λ e. absurd (n e), λ _. refl)
 
--- how many more are taken with one more
+-- of a list of beginnings with one more in front, one more is taken up to 2 d where that one chooses such a slot
 abbrev TakesOne : ℕ → List ℤ → ℤ → List ℤ → List Begun → Type 0
 TakesOne d ps v vs bs = (slot ps v ≤ d + d → taken_up_to d ((ps, v ∷ vs) ∷ bs) ≡ suc (taken_up_to d bs))
     × (d + d < slot ps v → taken_up_to d ((ps, v ∷ vs) ∷ bs) ≡ taken_up_to d bs)
 
--- it is taken at its slot and nowhere else
+-- a beginning is taken at its slot and nowhere else
 one_taken : (d : ℕ) (ps : List ℤ) (v : ℤ) (vs : List ℤ) (bs : List Begun) → TakesOne d ps v vs bs
 one_taken zero ps v vs bs =
     let at = takes_where 0 ps v vs bs in

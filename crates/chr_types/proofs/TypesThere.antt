@@ -206,7 +206,7 @@ pub types_there : (n : ℕ) (cs : List ℤ) → n < 2 ^ 63 → Rises cs → AreV
 types_there n cs small rises values =
     let w = candidates_there n cs in (lists_from cs w.0 n [] [], types_are n cs w.0 small rises values w.1)
 
--- at most so many, or more
+-- there is a list of all order types that is within the limit, or there are more than the limit
 pub types_or_more : (limit n : ℕ) (cs : List ℤ) → limit < 2 ^ 64 → Rises cs → AreValues cs
     → ((rs : List (List ℤ)) × AreTypes n cs rs × (length rs ≤ limit)) ⊎ MoreTypesThan limit n cs
 types_or_more limit n cs l rises values = by (cases_lt 64 n)

@@ -84,7 +84,7 @@ flat_rest : {X : Type 0} (f : X → List (List ℤ)) (ks : List X) (i : ℕ) →
     ++ flat_map f (drop i ks)
 flat_rest f ks i = ap (flat_map f) (sym (take-append-drop i ks)) ∙ flat_map-append f (take i ks) (drop i ks)
 
--- with the lists of one more candidate
+-- a walk that no list of the first candidates stops goes on through the lists of the next
 pub one_more : {V X : Type 0} (step : V → List ℤ → Bool → V → Type 0) (f : X → List (List ℤ)) (ks : List X) (i : ℕ)
     (d : X) (v u w : V)
     → i < length ks → Visited step v (flat_map f (take i ks)) false u → Visited step u (f (get_or ks i d)) false w
@@ -92,7 +92,7 @@ pub one_more : {V X : Type 0} (step : V → List ℤ → Bool → V → Type 0) 
 one_more step f ks i d v u w l x y = subst (λ rs. Visited step v rs false w) (sym (flat_more f ks i d l))
     (visited_on step (flat_map f (take i ks)) (f (get_or ks i d)) false v u w x y)
 
--- or the walk stops in these
+-- or it stops at a list of the next candidate
 pub stops_in : {V X : Type 0} (step : V → List ℤ → Bool → V → Type 0) (f : X → List (List ℤ)) (ks : List X) (i : ℕ)
     (d : X) (v u w : V)
     → i < length ks → Visited step v (flat_map f (take i ks)) false u → Visited step u (f (get_or ks i d)) true w
@@ -103,7 +103,7 @@ stops_in step f ks i d v u w l x y =
     subst (λ rs. Visited step v rs true w) (sym (flat_rest f ks (i + 1)))
     (visited_off step (flat_map f (take (i + 1) ks)) (flat_map f (drop (i + 1) ks)) v w here)
 
--- a candidate with no lists
+-- a candidate that has no lists changes nothing
 pub no_more_at : {V X : Type 0} (step : V → List ℤ → Bool → V → Type 0) (f : X → List (List ℤ)) (ks : List X) (i : ℕ)
     (d : X) (v u : V)
     → i < length ks → Visited step v (flat_map f (take i ks)) false u → f (get_or ks i d) ≡ []

@@ -10,11 +10,11 @@ use crate::visitors::{AllLists, LimitedCount};
 use crate::walk::walk;
 use std::alloc::{AllocError, Global};
 
-/// Of so many classes a bound on their order types is made in no time.
+/// The most classes for which [`most_types`] is asked, which calls itself twice for each class.
 const FEW_CLASSES: usize = 8;
 
-/// No fewer than the order types of so many classes, where so many different values are there: a class is equal to one
-/// of these or lies between them. None where that is no number of 64 bits.
+/// A bound on the number of order types of `classes` classes where `values` different values are there: a class is
+/// equal to one of these or lies between them. None where the bound needs more than 64 bits.
 fn most_types(classes: usize, values: usize) -> Option<usize>
     ensures { IfSome result (λ most. most ≡ most_types classes values) }
 {
@@ -28,7 +28,7 @@ fn most_types(classes: usize, values: usize) -> Option<usize>
     Some(most)
 }
 
-/// Whether a bound tells that so many classes have no more order types than the limit.
+/// Whether the bound tells that `classes` classes have no more order types than the limit.
 fn are_few(classes: usize, values: usize, limit: usize) -> bool
     ensures { OnTrue result (most_types classes values ≤ limit) }
 {
@@ -41,8 +41,8 @@ fn are_few(classes: usize, values: usize, limit: usize) -> bool
     }
 }
 
-/// Whether there are more order types of so many classes among the constants than the limit. The constants rise. The
-/// walk stops once the limit is passed, and holds one list of values.
+/// Whether `classes` classes have more order types among the constants than `limit`. The constants rise. The walk stops
+/// once the limit is passed, and holds one list of values.
 ///
 /// # Errors
 /// Where memory is refused.
@@ -62,7 +62,8 @@ pub fn has_more_types(
         return Ok(false);
     }
     let candidates = all_candidates(alloc, classes, constants)?;
-    // As in the search for a list: the walk is not begun where it can't end.
+    // Each list of constants is an order type of its own, so a walk that would meet more of them than the limit isn't
+    // begun.
     if has_more_lists(constants.len(), classes, limit) {
         return Ok(true);
     }

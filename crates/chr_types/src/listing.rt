@@ -16,7 +16,7 @@ use std::alloc::Global;
 /// limit: with the first class at one value, each other class can be equal to it or greater.
 pub const MAX_CLASSES: usize = 64;
 
-/// Whether the lists of so many constants alone are more than the limit. Each has an order type of its own.
+/// Whether there are more lists of `classes` constants than `limit`. Each of these lists has an order type of its own.
 pub(crate) fn has_more_lists(constants: usize, classes: usize, limit: usize) -> bool
     ensures { OnTrue result (limit < constants ^ classes) }
 {
@@ -27,7 +27,7 @@ pub(crate) fn has_more_lists(constants: usize, classes: usize, limit: usize) -> 
     lists > limit
 }
 
-/// All order types of so many classes among the constants, each by its representative, in lexicographic order.
+/// All order types of `classes` classes among the constants, each by its representative, in lexicographic order.
 ///
 /// The constants rise, each greater than the one before. There may be any number of classes, and any limit. The search
 /// stops once the limit is passed, and keeps no more than the listed types and the prefix that it is at.
@@ -52,7 +52,8 @@ pub fn types(
         return Err(TypesFault::TooManyTypes);
     }
     let candidates = all_candidates(alloc, classes, constants)?;
-    // The search goes through all candidates for each value of a list, so it is not begun where it can't end.
+    // The search goes through all candidates for each value of a list, so it is not begun where it would pass the
+    // limit.
     if has_more_lists(constants.len(), classes, limit) {
         return Err(TypesFault::TooManyTypes);
     }

@@ -1,8 +1,8 @@
 //! The search for representatives, one class after the other.
 //!
-//! A prefix lacks some values: those between one of its values and the number that this is counted from. They are its
-//! holes. A value is tried only where the holes that are then left fit into the classes that are left, so each prefix
-//! can be completed, and the lists come in lexicographic order.
+//! Each value is counted from its base, and a list has all numbers between a value and its base. Those that a prefix
+//! lacks are its holes. A value is tried only where the holes that are then left fit into the classes that are left, so
+//! each prefix can be completed, and the lists come in lexicographic order.
 ghost use Rattle.std.specs.Prelude.{◌≡◌, ◌≢◌, ◌||◌, ℕ, ℤ, List, ◌+◌, ◌<◌, ◌≤◌, ◌++◌, [], ◌∷◌, cond, OnOk, OnErr, IfOk};
 ghost use Rattle.std.specs.Prelude.{IfErr, IsSome, IfSome, IsTrue, ◌↔◌, length, map, vec_len};
 ghost use Rattle.chr_types.specs.working.Search.{toward, way, others, has, holes_by, lists_over};
@@ -52,8 +52,8 @@ fn is_met(prefix: &[i64], value: i64, holes: &[i64], number: i64) -> bool
     is_among(prefix, number) || value == number || is_among(holes, number)
 }
 
-/// Adds the numbers between the candidate and its base to the holes, up to the first that is there.
-/// Tells whether the holes are then no more than there is room for.
+/// Adds the numbers between the candidate and its base to the holes, up to the first that is met already. Tells whether
+/// the holes are then no more than `room`.
 fn add_way(
     holes: &mut Vec<i64>,
     prefix: &[i64],
@@ -107,7 +107,7 @@ pub(crate) fn holes_after(
     Ok(None)
 }
 
-/// Adds the lists that begin with the prefix and go on with so many more values, in lexicographic order.
+/// Adds the lists that begin with the prefix and go on with `left` more values, in lexicographic order.
 ///
 /// # Errors
 /// `TooManyTypes` where there would be more than the limit, and some may be added then.

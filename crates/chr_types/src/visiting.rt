@@ -9,9 +9,9 @@ use crate::candidates::all_candidates;
 use crate::walk::{Beginnings, Visit, walk};
 use std::alloc::{AllocError, Global};
 
-/// Visits the order types of so many classes among the constants, in lexicographic order of their representatives, up
-/// to the first visit that stops the walk, and tells whether one did. Visited are those of which each beginning is
-/// admitted: one that isn't is left at once, whatever would follow it.
+/// Visits the order types of `classes` classes among the constants, in lexicographic order of their representatives, up
+/// to the first visit that stops the walk, and tells whether one did. Only those are visited of which `wanted` admits
+/// each beginning: one that it doesn't admit is left at once.
 ///
 /// The constants rise. One list of values is held at a time.
 ///

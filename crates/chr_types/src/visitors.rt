@@ -4,7 +4,7 @@ ghost use Rattle.std.specs.Prelude.{◌≡◌};
 use crate::walk::{Beginnings, Visit};
 use std::alloc::AllocError;
 
-/// Wants all lists.
+/// Admits every list.
 #[derive(Drop)]
 pub struct AllLists;
 

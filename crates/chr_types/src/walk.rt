@@ -9,10 +9,10 @@ use std::alloc::{AllocError, Global};
 
 /// What each beginning of a list of values has to pass.
 pub trait Beginnings {
-    /// Whether lists that begin so are wanted.
+    /// Whether lists that begin with these values are wanted.
     ghost admits: { Self → List ℤ → Bool };
 
-    /// Whether lists that begin so are wanted.
+    /// Whether lists that begin with `values` are wanted.
     fn goes_on(&self, values: &[i64]) -> bool
         ensures { result ≡ admits self.now values.now };
 }
@@ -35,7 +35,7 @@ pub trait Visit {
         ensures ready { IfOk result (λ _. ready self.new) };
 }
 
-/// Visits the lists that begin with the prefix, go on with so many more values and are wanted, in lexicographic order,
+/// Visits the lists that begin with the prefix, go on with `left` more values and are wanted, in lexicographic order,
 /// up to the first that stops the walk. Tells whether one did; where none did, the prefix is as it was.
 pub(crate) fn walk<T: Beginnings, V: Visit>(
     alloc: Global,

@@ -37,7 +37,7 @@ ranks f ps = total (λ (p : Pattern). f p.symbol.0) ps
 count_cons : (s : ℕ) (p : Pattern) (ps : List Pattern) → count_of s (p ∷ ps) ≡ once p.symbol.0 s + count_of s ps
 count_cons s p ps = sum_by-cons (λ (q : Pattern). cond (nat_eq q.symbol.0 s) 1 0) p ps
 
--- they are those of the symbols, each as often as it stands among the patterns
+-- the ranks of patterns are the ranks of the symbols, each taken as often as the symbol stands among the patterns
 ranks_counted : (ds : List Declaration) (f : ℕ → ℕ) (ps : List Pattern) → list_all (is_declared ds) ps ≡ true
     → dot (length ds) f (λ s. count_of s ps) ≡ ranks f ps
 ranks_counted ds f [] h = dot_none (length ds) f
@@ -58,7 +58,8 @@ side_fits ds Removed r h = let a = (and_parts _ (list_all (is_declared ds) r.bod
 side_fits ds Body r h = (and_parts (list_all (is_declared ds) r.kept.items && list_all (is_declared ds) r.removed.items)
     (list_all (is_declared ds) r.body.items) h).1
 
--- so are those of a side of the rules, each taken so many times
+-- each rule taken its number of times, the ranks on one side of all rules are those of the symbols, each as often as it
+-- stands there
 sides_counted : (ds : List Declaration) (f : ℕ → ℕ) (side : Side) (rs : List Rule) (times : List ℕ)
     → list_all (fits ds) rs ≡ true → dot (length ds) f (λ s. total_of side s rs times)
     ≡ taken_times (λ r. ranks f (side_of side r)) rs times

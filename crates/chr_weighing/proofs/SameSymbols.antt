@@ -14,7 +14,7 @@ reweighed_at [] i w = refl
 reweighed_at (d ∷ ds) zero w = refl
 reweighed_at (d ∷ ds) (suc i) w = ap (λ es. record d { weight = default_weight } ∷ es) (reweighed_at ds i w)
 
--- one weight more
+-- a program with another weight at one place is the same but for weights
 pub put_at : (p q : Program) (i : ℕ) (w : Weight) → declarations q ≡ with_weight (declarations p) i w → rules_of q
     ≡ rules_of p → IsReweighed p q
 put_at p q i w symbols rules = record {

@@ -6,7 +6,7 @@ use Rattle.std.proofs.Math.Nat.{mul-le-mul_left, mul-suc}
 use Rattle.std.proofs.lemmas.Bool.Decides.{nat_tests}
 use Rattle.std.proofs.lemmas.List.Sums.{sum_by-cons}
 
--- the first n numbers, each so often
+-- the first n of the numbers f, each taken as often as c says, summed
 abbrev pub dot : ℕ → (ℕ → ℕ) → (ℕ → ℕ) → ℕ
 dot zero f c = 0
 dot (suc n) f c = f n * c n + dot n f c
@@ -66,13 +66,13 @@ pub dot_once : (n : ℕ) (f : ℕ → ℕ) (x : ℕ) → x < n → dot n f (once
 dot_once zero f x l = absurd (omega (arith, l))
 dot_once (suc n) f x l = one_more n f x l (λ m. dot_once n f x m) (nat_eq x n) refl
 
--- the numbers of these, each taken so many times
+-- what f gives for the items, each taken its number of times, summed
 abbrev pub taken_times : {A : Type 0} → (A → ℕ) → List A → List ℕ → ℕ
 taken_times f [] times = 0
 taken_times f (x ∷ xs) [] = 0
 taken_times f (x ∷ xs) (k ∷ times) = k * f x + taken_times f xs times
 
--- where each number is less than another
+-- where f is less than g for each item, the sum by f is less by the number of all times at least
 pub taken_less : {A : Type 0} (f g : A → ℕ) (xs : List A) (times : List ℕ) → length times ≡ length xs
     → ((i : ℕ) (x : A) → slice_get xs i ≡ Some x → f x < g x)
     → taken_times f xs times + sum times ≤ taken_times g xs times

@@ -17,14 +17,14 @@ side_of Body r = r.body.items
 abbrev pub count_of : ℕ → List Pattern → ℕ
 count_of s ps = count_by (λ p. nat_eq p.symbol.0 s) ps
 
--- how often it stands on that side of the rules, each taken so many times
+-- how often the symbol stands on that side of the rules, each rule taken its number of times
 abbrev pub total_of : Side → ℕ → List Rule → List ℕ → ℕ
 total_of side s [] times = 0
 total_of side s (r ∷ rs) [] = 0
 total_of side s (r ∷ rs) (n ∷ times) = n * count_of s (side_of side r) + total_of side s rs times
 
--- each rule has a number of times, not all are 0, and applied so many times they give back of each symbol at least as
--- many atoms as they take
+-- each rule has a number of times, not all are 0, and rules that are applied that often give back of each symbol at
+-- least as many atoms as they take
 pub record IsCycle (p : Program) (times : List ℕ) : Type 0 where
   pub each : length times ≡ length (rules_of p)
   pub some : 0 < sum times

@@ -9,10 +9,10 @@ use chr_base::program::Program;
 use chr_base::rule::Rule;
 use chr_base::term::Pattern;
 
-/// Rules which, each applied so many times, give back of each symbol at least as many atoms as they take.
+/// Rules which, each applied its number of times, give back of each symbol at least as many atoms as they take.
 #[derive(Debug, Drop)]
 pub struct Cycle {
-    /// How often each rule of the program is applied, in order.
+    /// How often each rule of the program is applied, by the order of the rules.
     pub times: Vec<u64>,
 }
 
@@ -43,7 +43,8 @@ pub(crate) fn count_of(patterns: &[Pattern], symbol: usize) -> usize
         .count()
 }
 
-/// How often the symbol stands on that side of the rules, each taken so many times, where the number fits.
+/// How often the symbol stands on that side of the rules, each taken its number of `times`. None where the number
+/// doesn't fit.
 fn total_of(rules: &[Rule], times: &[u64], side: Side, symbol: usize) -> Option<u64>
     ensures { IfSome result (λ n. n ≡ total_of side symbol rules.now times.now) }
 {
@@ -59,7 +60,8 @@ fn total_of(rules: &[Rule], times: &[u64], side: Side, symbol: usize) -> Option<
     here.checked_add(more)
 }
 
-/// Whether the rules are seen to give back the symbol at least as often as they take it.
+/// Whether the rules, each taken its number of `times`, are seen to give back the symbol at least as often as they take
+/// it.
 fn is_given_back(rules: &[Rule], times: &[u64], symbol: usize) -> bool
     ensures { OnTrue result
         (total_of Removed symbol rules.now times.now ≤ total_of Body symbol rules.now times.now) }
@@ -72,7 +74,7 @@ fn is_given_back(rules: &[Rule], times: &[u64], symbol: usize) -> bool
     }
 }
 
-/// Whether they are seen to give back each of so many symbols.
+/// Whether the rules, each taken its number of `times`, are seen to give back each of the first `symbols` symbols.
 fn are_given_back(rules: &[Rule], times: &[u64], symbols: usize) -> bool
     ensures { OnTrue result ((s : ℕ) → s < symbols
         → total_of Removed s rules.now times.now ≤ total_of Body s rules.now times.now) }
@@ -95,7 +97,7 @@ fn has_some(times: &[u64]) -> bool
     *first != 0 || has_some(times)
 }
 
-/// Whether the rules of the program, applied so many times, are seen to be a cycle.
+/// Whether the rules of the program, each applied its number of `times`, are seen to be a cycle.
 pub(crate) fn is_cycle(program: &Program, times: &[u64]) -> bool
     ensures { OnTrue result (IsCycle program.now times.now) }
 {

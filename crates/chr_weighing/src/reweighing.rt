@@ -40,7 +40,7 @@ fn with_weights(alloc: Global, program: &Program, weights: &[Weight]) -> Result<
     Ok(other)
 }
 
-/// The program with these weights, where it lowers then.
+/// The program with these weights of its symbols, where each rule then lowers.
 pub(crate) fn weighed_with(
     alloc: Global,
     program: &Program,

@@ -11,13 +11,16 @@ pub(crate) enum Variable {
     Rule(usize),
 }
 
-/// An equation: a number of times a variable is a constant and multiples of the columns' variables.
+/// An equation: `times` times the variable is the constant and the multiples of the columns' variables, summed.
 #[derive(Debug, Drop)]
 pub(crate) struct Row {
+    /// The variable for which the equation is solved.
     pub variable: Variable,
     /// How many times the variable is taken, at least once.
     pub times: i128,
+    /// What the columns' variables don't change.
     pub constant: i128,
+    /// How many times the variable of each column is taken, by the order of the columns.
     pub multiples: Vec<i128>,
 }
 
@@ -33,7 +36,7 @@ pub(crate) fn common_divisor(first: u128, second: u128) -> u128 {
     divisor
 }
 
-/// Both products together, where that fits.
+/// Both products summed, where that fits.
 fn products(first: i128, of: i128, second: i128, and: i128) -> Option<i128> {
     first.checked_mul(of)?.checked_add(second.checked_mul(and)?)
 }
@@ -70,7 +73,7 @@ impl Row {
         divisor
     }
 
-    /// The same equation in the least numbers.
+    /// An equal equation in the least numbers.
     fn in_least_numbers(self, alloc: Global) -> Option<Row> {
         let divisor = i128::try_from(self.divisor()).ok()?;
         if divisor <= 1 {
@@ -110,7 +113,7 @@ impl Row {
         row.in_least_numbers(alloc)
     }
 
-    /// The equation with what a column's variable is in its place.
+    /// The equation in which the variable of the column at `place` is put as what its own equation `column` says.
     pub(crate) fn with(&self, alloc: Global, place: usize, column: &Row) -> Option<Row> {
         let factor = *self.multiples.get(place)?;
         if factor == 0 {

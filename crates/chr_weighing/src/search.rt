@@ -7,10 +7,10 @@ use chr_base::program::Program;
 use chr_base::weight::Weight;
 use std::alloc::Global;
 
-/// After so many steps a search ends without having found anything.
+/// A search ends without having found anything after this number of steps.
 pub const MAX_SEARCH_STEPS: usize = 400;
 
-/// So many times a first number counts as one, where numbers are too great for one.
+/// What one of a weight's first numbers counts for, where a size doesn't fit one number: more than any second number.
 const PART: i128 = MAX_WEIGHT as i128 + 1;
 
 /// What a search finds.
@@ -62,7 +62,7 @@ fn weight_of(size: i128, paired: bool) -> Option<Weight> {
     })
 }
 
-/// So many times one more than each share, rounded up.
+/// For each share the weight of `times` times one more than it, rounded up.
 pub(crate) fn weights_of(
     alloc: Global,
     shares: &[Share],

@@ -15,7 +15,7 @@ pub(crate) struct Share {
 }
 
 impl Share {
-    /// So many times the fraction, rounded up.
+    /// `times` times the fraction, rounded up.
     pub(crate) fn rounded_up(self, times: i128) -> Option<i128> {
         let up = self.of.checked_sub(1)?;
         self.amount
@@ -134,7 +134,7 @@ impl Tableau {
         self.rows.iter().find(|row| row.constant < 0)
     }
 
-    /// The column by which the sum grows least where that row grows; none where the row grows by no column.
+    /// The column by which the sum grows least where this row grows; none where the row grows by no column.
     pub(crate) fn column_for(&self, row: &Row) -> Option<usize> {
         let mut best: Option<Step> = None;
         for (place, (multiple, cost)) in row
@@ -155,7 +155,7 @@ impl Tableau {
         Some(best?.place)
     }
 
-    /// The same equations, in which the row's variable and that of the column trade places.
+    /// The equations with the variable of the row and that of the column in each other's place.
     pub(crate) fn traded(&self, alloc: Global, row: &Row, place: usize) -> Option<Tableau> {
         let solved = row.solved_for(alloc, place, *self.columns.get(place)?)?;
         Some(Tableau {
@@ -226,8 +226,8 @@ impl Tableau {
         u64::try_from(multiple.checked_neg()?).ok()
     }
 
-    /// How often each of so many rules has to be applied, so that no weights are lowered by all, where this row grows
-    /// by no column.
+    /// How often each of the first `rules` rules has to be applied so that no weights are lowered by all, where this
+    /// row grows by no column.
     pub(crate) fn times(&self, alloc: Global, row: &Row, rules: usize) -> Option<Vec<u64>> {
         let mut times = Vec::with_capacity(alloc, rules).ok()?;
         for rule in 0..rules {

@@ -17,11 +17,11 @@ pub enum Weighing {
     Weights(Weighed),
     /// Rules which no weights lower all.
     Cycle(Cycle),
-    /// Nothing.
+    /// Neither was found.
     Unknown,
 }
 
-/// The program with so many times one more than these shares as weights, where it lowers then.
+/// The program with weights of `times` times one more than each of these shares, where each rule then lowers.
 fn weights_found(
     alloc: Global,
     program: &Program,
@@ -36,8 +36,8 @@ fn weights_found(
     Some(Weighing::Weights(weighed))
 }
 
-/// The first of the weights by these shares under which the program lowers: the least ones, or multiples of them, as
-/// single numbers or as pairs.
+/// The program with the first of the weights by these shares under which each rule lowers: the least ones, or multiples
+/// of them, as single numbers or as pairs.
 fn shares_found(alloc: Global, program: &Program, shares: &[Share]) -> Option<Weighing>
     ensures { IfSome result (IsWeighing program.now) }
 {
@@ -53,7 +53,7 @@ fn shares_found(alloc: Global, program: &Program, shares: &[Share]) -> Option<We
     None
 }
 
-/// The cycle in which the rules are applied so many times, where they are one.
+/// The cycle in which each rule is applied its number of `times`, where that is one.
 fn cycle_found(program: &Program, times: Vec<u64>) -> Option<Weighing>
     ensures { IfSome result (IsWeighing program.now) }
 {

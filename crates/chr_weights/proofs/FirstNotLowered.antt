@@ -1,4 +1,4 @@
--- Each rule lowers or doesn't, and where some don't there is a first.
+-- Each rule lowers the weights or doesn't, and where some don't there is a first.
 use Rattle.std.specs.Prelude.{◌≡◌, ℕ, zero, suc, pos, ◌+◌, ◌-◌, ◌<◌, ◌≤◌, ◌⊎◌, List, [], ◌∷◌, Some, slice_get}
 use Rattle.std.proofs.Common.{arith, inl, inr, refl, sym, ap, subst, ◌∙◌}
 use Rattle.std.proofs.lemmas.Bool.{cases_lt}
@@ -16,7 +16,7 @@ use Rattle.chr_weights.specs.Weights.{AreLowering, IsLowering, IsFirstNotLowered
 zeros : Valuation
 zeros x = pos 0
 
--- one is lighter than the other, or not
+-- of two weights the one is lighter than the other, or not
 lighter_or_not : (v w : Weight) → IsLighter v w ⊎ (¬ IsLighter v w)
 lighter_or_not v w = elim (cases_lt v.first w.first) as (λ _. IsLighter v w ⊎ (¬ IsLighter v w)) [
   | inl l ↦ inl (inl l)
@@ -114,7 +114,7 @@ module _ (ds : List Declaration) where
   abbrev HasFirst : List Rule → Type 0
   HasFirst rules = (i : ℕ) × (b : Weight) × (a : Weight) × IsFirstNotLowered ds rules (suc i) b a
 
-  -- all lower, or there is a first that doesn't
+  -- all rules lower the weights, or there is a first that doesn't
   all_or_first : (rules : List Rule) → AreLowering (weight_by ds) rules ⊎ HasFirst rules
   all_or_first [] = inl (λ i r e. absurd (none-some r e))
   all_or_first (r ∷ rules) = by (lighter_or_not (after r) (before r)) (all_or_first rules)

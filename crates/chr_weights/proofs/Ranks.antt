@@ -24,7 +24,7 @@ use Rattle.chr_weights.specs.Weights.{AreLowering, ProgramLowers, declared_weigh
 use Rattle.chr_weights.specs.Weights.{weight_in}
 use Rattle.chr_weights.proofs.WeightLaws.{first_at_most, second_at_most, total_at_most, weight_at_most}
 
--- as many for each first number, and the second number
+-- a weight as one number: k for each of its first number, and its second number
 abbrev pub ranked : ℕ → (Atom → Weight) → Atom → ℕ
 ranked k w a = k * (w a).first + (w a).second
 
@@ -101,7 +101,7 @@ unpaired_declared (d ∷ ds) zero n h = by (nat_eq d.arity n) refl
     by false e = rw e refl
 unpaired_declared (d ∷ ds) (suc i) n h = unpaired_declared ds i n ((or_parts (is_paired d.weight) (some_paired ds) h).1)
 
--- then the first numbers are lowered
+-- where no declared weight has a second number, each rule lowers the sum of the first numbers
 pub lowers_first : (p : Program) → some_paired (declarations p) ≡ false → ProgramLowers p → (i : ℕ) (r : Rule)
     → slice_get (rules_of p) i ≡ Some r → RuleLowers (λ a. (weight_in p a).first) r
 lowers_first p none lowers i r e v = by (lowers i r e v)

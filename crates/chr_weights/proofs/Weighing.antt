@@ -43,7 +43,7 @@ declared_within ds i n h = by (slice_get ds i) refl h
     by None e h = absurd (true≢false (sym h))
     by (Some d) e h = slice_get_within ds i d e
 
--- its weight is the one that the table has
+-- the weight of a declared symbol is the one that the table has
 pub weight_found : (ds : List Declaration) (i n : ℕ) (w : Weight) → takes (slice_get ds i) n ≡ true → Some w
     ≡ option_map (λ d. d.weight) (slice_get ds i) → w ≡ declared_weight (slice_get ds i) n
 weight_found ds i n w h e = by (slice_get ds i) h e
@@ -114,7 +114,7 @@ atoms_more w xs i x s y t l is h e h2 =
     let b = total_more (λ q. (w q).second) xs i x l is in
     h2 ∙ (λ k. sum (h k) (e k)) ∙ sym (λ k. record { first = a k; second = b k })
 
--- the rules so far, and one more
+-- where the rules before a place lower the weights, and the rule there does, one rule more does
 pub lowers_more : (p : Program) (rs : List Rule) (n : ℕ) (x : Rule) → rs ≡ rules_of p → n < length rs
     → x ≡ get_or rs n x → ((k : ℕ) (r : Rule) → k < n → slice_get (rules_of p) k ≡ Some r → IsLowering (weight_in p) r)
     → IsLowering (weight_in p) x
@@ -163,7 +163,7 @@ refuted p n before after h all =
       | inr w ↦ (let l = w.0 in let f = h.first in let g = h.within in omega (arith, l, f, g))
     ]
 
--- so the answer is exact
+-- where some rule does not lower, the answer 'no' is exact
 pub not_lowered : (p : Program) (n : ℕ) (before after : Weight) → IsFirstNotLowered (declarations p)
     (rules_of p) n before after → IsTrue false ↔ ProgramLowers p
 not_lowered p n before after h = ((λ e. absurd (true≢false (sym e))), λ all. absurd (refuted p n before after h all))

@@ -16,11 +16,11 @@ abbrev pub declared_weight : Option Declaration → ℕ → Weight
 declared_weight None n = no_weight
 declared_weight (Some d) n = if nat_eq d.arity n then d.weight else no_weight
 
--- the weight of an atom: what is declared for its symbol with that many arguments, else none
+-- the weight of an atom: that of its symbol, where it is declared with the atom's number of arguments, else none
 abbrev pub weight_by : List Declaration → Atom → Weight
 weight_by ds a = declared_weight (slice_get ds a.symbol.0) (length a.args.items)
 
--- its weight in the program
+-- the weight of an atom in the program
 abbrev pub weight_in : Program → Atom → Weight
 weight_in p a = weight_by (declarations p) a
 
@@ -40,11 +40,11 @@ abbrev pub IsLowering : (Atom → Weight) → Rule → Type 0
 IsLowering w r =
     (v : Valuation) → IsLighter (total_weight w (atoms_at v r.body.items)) (total_weight w (atoms_at v r.removed.items))
 
--- each rule is such
+-- each of the rules lowers the weights of atoms
 abbrev pub AreLowering : (Atom → Weight) → List Rule → Type 0
 AreLowering w rules = (i : ℕ) (r : Rule) → slice_get rules i ≡ Some r → IsLowering w r
 
--- each rule of the program is such
+-- each rule of the program lowers the weights that the program declares
 abbrev pub ProgramLowers : Program → Type 0
 ProgramLowers p = AreLowering (weight_in p) (rules_of p)
 

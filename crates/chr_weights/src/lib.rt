@@ -17,7 +17,7 @@ mod weighed;
 
 pub use weighed::Weighed;
 
-/// The first rule whose removed heads do not outweigh its body.
+/// The first rule whose removed heads do not weigh more than its body.
 #[derive(Clone, Copy, Debug, PartialEq, Eq)]
 pub struct NotLowered {
     /// Its number, from 1.
@@ -28,8 +28,8 @@ pub struct NotLowered {
     pub after: Weight,
 }
 
-/// Takes a program in which the removed heads of each rule weigh more than its body. Else it tells the first rule of
-/// which this is not so, with both weights. It takes no memory.
+/// Takes a program in which the removed heads of each rule weigh more than its body. Else it tells the first rule whose
+/// removed heads do not, with the weights of its heads and its body. It takes no memory.
 pub fn weigh(program: Program) -> Result<Weighed, NotLowered>
     ensures exact { IsOk result ↔ ProgramLowers program }
     ensures ok { IfOk result (λ w. program_of w ≡ program) }
@@ -42,7 +42,7 @@ pub fn weigh(program: Program) -> Result<Weighed, NotLowered>
     }
 }
 
-/// The weight of a bag, where both sums fit. It takes no memory.
+/// The weight of a bag. Each of its two sums has to fit 64 bits. It takes no memory.
 pub fn weight(weighed: &Weighed, bag: &Bag) -> Weight
     requires first { (store_weight (program_of weighed.now) bag.now).first < 2 ^ 64 }
     requires second { (store_weight (program_of weighed.now) bag.now).second < 2 ^ 64 }

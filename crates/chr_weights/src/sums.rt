@@ -47,7 +47,7 @@ pub(crate) fn first_not_lowered(program: &Program) -> Option<NotLowered>
     None
 }
 
-/// The weight of an atom, none where the program does not declare it.
+/// The weight of an atom, [`NO_WEIGHT`] where the program does not declare it.
 fn atom_weight(program: &Program, atom: &Atom) -> Weight
     ensures { result ≡ weight_in program.now atom.now }
 {

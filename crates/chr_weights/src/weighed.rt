@@ -23,7 +23,7 @@ impl Weighed {
         Weighed { program }
     }
 
-    /// The program.
+    /// The program that lowers.
     pub fn program(&self) -> &Program
         ensures { result.now ≡ program_of self.now }
     {

@@ -22,7 +22,7 @@ value_among [] as' x = None
 value_among (p ∷ ps) [] x = None
 value_among (p ∷ ps) (a ∷ as') x = option_or (first_value p.args.items a.args.items x) (value_among ps as' x)
 
--- that value for each variable, 0 for one that has none
+-- the value of each variable at its first place among the patterns, 0 for one that stands in none of them
 abbrev pub valuation : List Pattern → List Atom → Valuation
 valuation ps as' x = unwrap_or (value_among ps as' x) (pos 0)
 

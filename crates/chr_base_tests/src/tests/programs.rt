@@ -28,7 +28,7 @@ fn three_symbols(rt: &impl Abort, alloc: Global) -> Program {
     program
 }
 
-/// An atom: its symbol and values.
+/// The symbol and the values of an atom.
 type Row = (u16, &'static [i64]);
 
 fn store(rt: &impl Abort, alloc: Global, rows: &[Row]) -> Bag {
@@ -83,7 +83,8 @@ fn expect_text(rt: &impl Abort, alloc: Global, rows: &[Row], expected: &str) {
     assert!(rt; text.as_str() == expected);
 }
 
-/// `a` before `min`, of one name fewer arguments first, and of one symbol the smaller arguments first.
+/// Texts of stores have `a` before `min`, of one name fewer arguments first, and of one symbol the smaller arguments
+/// first.
 #[test]
 fn texts(rt: HostRuntime) {
     expect_text(&rt, rt.alloc(), &[], "true");
@@ -101,7 +102,7 @@ fn texts(rt: HostRuntime) {
     );
 }
 
-/// Atoms, and the same in the order in which they are printed.
+/// The symbols and values of atoms, and of the same atoms in the order in which they are printed.
 type Sorted = (&'static [Row], &'static [Row]);
 
 const PRINTED: [Sorted; 2] = [

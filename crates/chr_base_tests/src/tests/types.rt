@@ -20,7 +20,7 @@ fn is_rising(numbers: &[i64]) -> bool
     true
 }
 
-/// The order types, of constants that are tested to rise.
+/// All order types within the limit, if there are not more. The constants are tested to rise.
 fn types_within(
     rt: &impl Abort,
     alloc: Global,
@@ -32,7 +32,7 @@ fn types_within(
     types(alloc, classes, constants, limit)
 }
 
-/// The order types, of which there are not more than the limit.
+/// All order types, of which there are not more than the limit.
 fn types_of(
     rt: &impl Abort,
     alloc: Global,
@@ -82,10 +82,10 @@ fn lists_representatives(rt: HostRuntime) {
     expect_representatives(&rt, rt.alloc(), &REPRESENTATIVES);
 }
 
-/// The number of classes, constants, and a number of order types.
+/// A number of classes, constants, and a number of order types.
 type Count = (usize, &'static [i64], usize);
 
-/// As many order types as there are.
+/// The exact numbers of order types.
 const COUNTS: [Count; 12] = [
     (0, &[], 1),
     (1, &[], 1),
@@ -101,7 +101,7 @@ const COUNTS: [Count; 12] = [
     (3, &[i64::MAX - 1], 51),
 ];
 
-/// Asserts that there are so many, within a limit.
+/// Asserts that there are `number` order types, which are within a limit.
 fn expect_count(
     rt: &impl Abort,
     alloc: Global,
@@ -125,7 +125,7 @@ fn counts(rt: HostRuntime) {
     expect_counts(&rt, rt.alloc(), &COUNTS);
 }
 
-/// Numbers of order types that are passed.
+/// Limits that are less than the number of order types.
 const TOO_MANY: [Count; 14] = [
     (7, &[], 47_292),
     (8, &[], 545_834),
@@ -145,7 +145,7 @@ const TOO_MANY: [Count; 14] = [
 
 const SIX_CONSTANTS: [i64; 6] = [3, 5, 90, 1_000, 2_000, 3_000];
 
-/// Whether there are more than the limit.
+/// Whether there are more order types than the limit.
 fn is_too_many(
     rt: &impl Abort,
     alloc: Global,
@@ -208,7 +208,7 @@ fn counts_lists_of_constants_first(rt: HostRuntime) {
     }
 }
 
-/// Whether the lists compare alike, each value with each and with each constant.
+/// Whether each value compares in the same way with each other value, and with each constant, in both lists.
 fn is_same_type(constants: &[i64], first: &[i64], second: &[i64]) -> bool {
     for (a, x) in first.iter().zip(second) {
         for (b, y) in first.iter().zip(second) {
@@ -225,7 +225,7 @@ fn is_same_type(constants: &[i64], first: &[i64], second: &[i64]) -> bool {
     true
 }
 
-/// Adds the values that are at most so far from this one.
+/// Adds the values from `reach` below the middle to `reach` above it.
 fn add_window(rt: &impl Abort, window: &mut Vec<i64>, middle: i64, reach: i64) {
     for value in middle.saturating_sub(reach)..=middle.saturating_add(reach) {
         if !window.contains(&value) {
@@ -253,7 +253,7 @@ fn longer(rt: &impl Abort, alloc: Global, list: &[i64], value: i64) -> Vec<i64> 
     more
 }
 
-/// Each of the lists with each value of the window more.
+/// Each of the lists with each value of the window behind it.
 fn all_longer(rt: &impl Abort, alloc: Global, lists: &[Vec<i64>], window: &[i64]) -> Vec<Vec<i64>> {
     let mut all = Vec::new(alloc);
     for list in lists {
@@ -265,7 +265,7 @@ fn all_longer(rt: &impl Abort, alloc: Global, lists: &[Vec<i64>], window: &[i64]
     all
 }
 
-/// All lists of so many values of the window.
+/// All lists of `classes` values of the window.
 fn all_lists(rt: &impl Abort, alloc: Global, window: &[i64], classes: usize) -> Vec<Vec<i64>> {
     let mut lists = Vec::new(alloc);
     lists.push(Vec::new(alloc)).expect(rt, "memory");
@@ -385,7 +385,8 @@ impl Beginnings for UpTo {
     }
 }
 
-/// Whether a list stopped the walk over those of two classes with no value above the most, and all values met.
+/// Visits the lists of two classes with no value above `most`, up to the first that begins with `last`. Tells whether a
+/// list stopped the walk, and all values met.
 fn visited(rt: &impl Abort, alloc: Global, most: i64, last: i64) -> (bool, Vec<i64>) {
     let mut kept = Kept {
         lists: Vec::new(alloc),
@@ -405,7 +406,7 @@ fn visits_admitted_lists_up_to_a_stop(rt: HostRuntime) {
     assert!(rt; lists.as_slice() == [0, 0].as_slice());
 }
 
-/// The number of classes, constants, a limit, and whether there are more order types.
+/// A number of classes, constants, a limit, and whether there are more order types.
 type Limit = (usize, &'static [i64], usize, bool);
 
 const LIMITS: [Limit; 5] = [
@@ -416,7 +417,7 @@ const LIMITS: [Limit; 5] = [
     (2, &[3, 5], 28, true),
 ];
 
-/// Whether there are more, of constants that are tested to rise.
+/// Whether there are more order types than the limit. The constants are tested to rise.
 fn has_more(
     rt: &impl Abort,
     alloc: Global,

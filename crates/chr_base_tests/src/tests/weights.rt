@@ -41,7 +41,7 @@ fn push(rt: &impl Abort, text: &mut String, more: &str) {
     text.push_str(more).expect(rt, "memory");
 }
 
-/// A weight clause more.
+/// Adds a weight clause.
 fn push_weight(rt: &impl Abort, text: &mut String, symbol: &str, weight: &str) {
     push(rt, text, " :- chr_weight ");
     push(rt, text, symbol);

@@ -17,7 +17,7 @@ rows_but tables fresh active = set (rows_in_turn tables fresh) active None
 abbrev pub only_table : List (Option Atom) → Tables
 only_table rows = rows_in (rows ∷ [])
 
--- and its indexes are by no columns
+-- the one table has only indexes by no columns
 abbrev pub only_index : Columns
 only_index zero index = Some []
 only_index (suc table) index = None

@@ -13,12 +13,13 @@ use Rattle.chr_columns.specs.declared.groups.Group.{Group}
 abbrev pub is_for : SymbolId → ℕ → Group → Bool
 is_for symbol arity g = nat_eq g.symbol.0 symbol.0 && nat_eq g.arity arity
 
--- the number of their group, which is that of their table, or the number of groups
+-- the number of the group of the atoms with this symbol and number of arguments, or the number of groups where there is
+-- none; the table of the atoms has the same number
 abbrev pub table_of : List Group → SymbolId → ℕ → ℕ
 table_of [] symbol arity = 0
 table_of (g ∷ gs) symbol arity = if is_for symbol arity g then 0 else suc (table_of gs symbol arity)
 
--- the table of an atom, and that of a pattern's atoms
+-- the number of the table of an atom, and of a pattern's atoms
 abbrev pub table_of_atom : List Group → Atom → ℕ
 table_of_atom groups a = table_of groups a.symbol (length a.args.items)
 
@@ -29,7 +30,8 @@ table_of_pattern groups p = table_of groups p.symbol (length p.args.items)
 abbrev pub shapes_of : List Group → List (SymbolId × ℕ)
 shapes_of groups = map (λ g. (g.symbol, g.arity)) groups
 
--- there is a group for a pattern's atoms, for those of the first n heads of a rule, and for those of all heads of rules
+-- there is a group for a pattern's atoms; after it, for those of the first n heads of a rule, and for those of all
+-- heads of rules
 abbrev pub IsGrouped : List Group → Pattern → Type 0
 IsGrouped groups p = table_of_pattern groups p < length groups
 
@@ -39,7 +41,7 @@ AreGrouped groups r n = (p : ℕ) → p < n → IsGrouped groups (pattern_at r p
 abbrev pub AllGrouped : List Group → List Rule → Type 0
 AllGrouped groups rules = (i : ℕ) (r : Rule) → slice_get rules i ≡ Some r → AreGrouped groups r (length (heads_of r))
 
--- what had a group has one
+-- each pattern whose atoms had a group has one
 abbrev pub StayGrouped : List Group → List Group → Type 0
 StayGrouped before after = (p : Pattern) → IsGrouped before p → IsGrouped after p
 

@@ -17,6 +17,6 @@ abbrev pub rows_in_turn : List Contents → List Atom → List (Option Atom)
 rows_in_turn [] fresh = map (λ a. Some a) fresh
 rows_in_turn (t ∷ tables) fresh = t.rows ++ rows_in_turn tables fresh
 
--- what is in the tables, and the fresh atoms
+-- the store of the atoms in the tables and of the fresh ones
 abbrev pub all_of : List Contents → List Atom → Store
 all_of tables fresh = contents (grid tables) ⊕ store_of fresh

@@ -9,7 +9,7 @@ use Rattle.chr_columns.specs.declared.making.Way.{Way}
 use Rattle.chr_columns.specs.working.Groups.{shapes_of}
 use Rattle.chr_columns.specs.working.Resting.{HasPlan}
 
--- the columns of an index, and those by whose values it leaves rows behind
+-- the columns of an index, and its order, by whose values it leaves out rows
 abbrev pub made_way : Way → List ℕ × Order
 made_way w = (w.columns.items, w.order)
 
@@ -24,7 +24,7 @@ lists_of k = map (λ w. w.0) (made_ways k)
 abbrev pub columns_in : List Keys → Columns
 columns_in keys table index = slice_get (get_or (map lists_of keys) table []) index
 
--- what was an index of a table stays it, and what was one of any table
+-- an index stays one with the same number and columns: of one table, and then of any table
 abbrev pub StayIndexed : List (List ℕ) → List (List ℕ) → Type 0
 StayIndexed before after = (i : ℕ) (cs : List ℕ) → slice_get before i ≡ Some cs → slice_get after i ≡ Some cs
 

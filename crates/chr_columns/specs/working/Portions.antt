@@ -16,11 +16,11 @@ use Rattle.chr_columns.specs.working.Printing.{IsWrittenOut, flats_atoms}
 abbrev pub first_argument : Atom → ℤ
 first_argument a = get_or a.args.items 0 (pos 0)
 
--- the place of the first cut that is above the atom's first argument, and their number where none is
+-- the place of the first cut that is above the atom's first argument, or the number of cuts where none is
 abbrev pub place_at : List ℤ → Atom → ℕ
 place_at cuts a = position_or_len (λ c. int_lt (first_argument a) c) cuts
 
--- those of these atoms that belong into a portion
+-- the atoms that belong into the portion at a place
 abbrev pub portion : List ℤ → ℕ → List Atom → List Atom
 portion cuts place atoms = filter (λ a. nat_eq (place_at cuts a) place) atoms
 
@@ -34,7 +34,7 @@ pub record IsPortion (ds : List Declaration) (cuts : List ℤ) (atoms : List Ato
   pub written : All (IsWrittenOut ds) flats
   pub same : store_of (flats_atoms flats) ≡ store_of (portion cuts place atoms)
 
--- all portions, as far as they could be written
+-- each portion that could be written is one
 abbrev pub ArePortions : List Declaration → List ℤ → List Atom → List (Option (Vec Flat Global)) → Type 0
 ArePortions ds cuts atoms portions =
     AllZip (λ place found. IfSome found (λ flats. IsPortion ds cuts atoms place flats.items))

@@ -25,7 +25,7 @@ flat_atoms f = map (flat_atom f) f.rows.items
 abbrev pub flat_rows : Flat → List (Option Atom)
 flat_rows f = map (λ row. Some (flat_atom f row)) f.rows.items
 
--- the atom is of its symbol and number of arguments
+-- the atom has the symbol and the number of arguments of the rows
 abbrev pub has_shape : Flat → Atom → Bool
 has_shape f a = nat_eq f.symbol.0 a.symbol.0 && nat_eq f.arity (length a.args.items)
 
@@ -64,12 +64,12 @@ pub record IsWritten (ds : List Declaration) (start : List ℕ) (atoms : List At
   pub some : started ≡ true → 0 < length atoms
   pub none : started ≡ false → atoms ≡ []
 
--- the atoms are in the order in which they are printed, and that is their text
+-- the atoms are in the order in which they are printed, and the text is theirs
 pub record IsWrittenOut (ds : List Declaration) (f : Flat) : Type 0 where
   pub rises : IsTrue (is_rising (print_cmp ds) (flat_atoms f))
   pub text : string_bytes f.text ≡ joined_text ds (flat_atoms f)
 
--- what is said to be written out is
+-- atoms that are said to be written out are
 abbrev pub Fits : List Declaration → Source → Type 0
 Fits ds (source.Table t) = ⊤
 Fits ds (source.Flat f) = ⊤

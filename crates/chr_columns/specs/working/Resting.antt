@@ -49,14 +49,15 @@ ArePlanned rules groups columns =
     (t : ℕ) (g : Group) (j : ℕ) (p : Plan) → slice_get groups t ≡ Some g → slice_get g.plans.items j ≡ Some p
     → IsPlanned rules groups columns p
 
--- a plan of this rule, with this number, is in this group: that of this place, or of one that reads like it
+-- The group has a plan for this place of the rule of this number: the plan of the place, or that of a place that reads
+-- like it.
 abbrev pub HasPlan : List Group → ℕ → ℕ → Rule → ℕ → Type 0
 HasPlan groups t i r p =
     (g : Group) × (j : ℕ) × (plan : Plan) × (slice_get groups t ≡ Some g)
     × (slice_get g.plans.items j ≡ Some plan) × (plan.rule ≡ i) × (pattern_at r p ≡ pattern_at r plan.place)
 
--- the head places of a rule from the nth on have plans in the groups of their heads, and all places of the first n
--- rules
+-- The head places of a rule from the nth on have plans in the groups of their heads; after it, all places of the first
+-- n rules have.
 abbrev pub HavePlans : List Group → ℕ → Rule → ℕ → Type 0
 HavePlans groups i r n =
     (p : ℕ) → n ≤ p → p < length (heads_of r) → HasPlan groups (table_of_pattern groups (pattern_at r p)) i r p
@@ -65,8 +66,8 @@ abbrev pub AreCovered : List Rule → List Group → ℕ → Type 0
 AreCovered rules groups n =
     (i : ℕ) (r : Rule) → i < n → slice_get rules i ≡ Some r → HavePlans groups i r 0
 
--- there is a table for each group and one more, each atom is in its table, and each head place has a plan,
--- its own or that of a place that reads like it
+-- There is a table for each group and one more, and each atom is in its table. Each head place has a plan, its own or
+-- that of a place that reads like it.
 pub record IsSetUp (rules : List Rule) (groups : List Group) (rows : Tables) (columns : Columns)
     (count : ℕ) : Type 0 where
   pub tables : count ≡ length groups + 1
@@ -93,13 +94,13 @@ pub record IsReacting (r : Rested) (a : Atom) (o : Occurrence) (heads : List Ato
   pub active : head heads o.place ≡ a
   pub bound : heads_at (valued values) rule ≡ heads
 
--- the search for partners of the atom may go on there, by the plans of its group
+-- the search for partners of the atom may go on where it stands, by the plans of its group
 abbrev pub MayGoOn : Rested → Atom → Standing → Type 0
 MayGoOn r a s =
     (g : Group) → slice_get r.directory.groups.items (table_of_atom r.directory.groups.items a) ≡ Some g
     → MayResume r.rules.items (rows_of r.tables.tables.items) a g.plans.items s
 
--- the search for partners of the last fresh atom may go on there
+-- the search for partners of the last fresh atom may go on where it stands, if it stands somewhere
 abbrev pub Stands : Rested → List Atom → Option Standing → Type 0
 Stands r fresh None = ⊤
 Stands r fresh (Some s) = (xs : List Atom) (a : Atom) → fresh ≡ xs ++ a ∷ [] → MayGoOn r a s

@@ -7,20 +7,20 @@ use crate::columns::Columns;
 use chr_base::atom::Atom;
 use std::alloc::{AllocError, Global};
 
-/// So few fresh atoms are taken in whatever order they stand: the rows that they meet are not ordered by them.
+/// The most fresh atoms that are taken in whatever order they stand.
 const FEW_ATOMS: usize = 16_384;
 
 impl Columns {
-    /// How many atoms are fresh, of all that are there. It takes no memory.
+    /// The number of fresh atoms among all that are there. It takes no memory.
     pub fn waiting(&self) -> usize
         ensures { result ≤ size self.now }
     {
         self.fresh.len()
     }
 
-    /// Many fresh atoms are put in the order of the arguments by which the pool's rules join them, for a rest that
-    /// comes next: partners are then taken one after another. So are few where plans leave rows behind by two columns.
-    /// The store stays the same. Where memory is refused the order does, too.
+    /// Puts the fresh atoms, where there are many, in the order of the arguments by which the pool's rules join them,
+    /// so that a rest that comes next takes partners one after another. Few are put in order only where plans leave
+    /// rows out by two columns. The store stays the same. Where memory is refused the order does, too.
     pub fn arrange(&mut self)
         ensures { self.new ≡ self.old }
     {

@@ -16,7 +16,7 @@ use std::alloc::{AllocError, Global};
 use std::thread::Threads;
 
 impl Columns {
-    /// Adds its tables to others. False where some atoms sit in none of them.
+    /// Adds the pool's tables to others. False, and nothing is added, where some atom is fresh, and so in no table.
     fn add_tables<'a>(&'a self, tables: &mut Vec<&'a Table>) -> Result<bool, AllocError>
         ensures { IfOk result (λ added. OnTrue added
             (contents (map rows_at tables.new.items) ≡ contents (map rows_at tables.old.items) ⊕ self.now)) }
@@ -28,7 +28,7 @@ impl Columns {
         Ok(true)
     }
 
-    /// The tables of all pools. None where some atoms sit in none of them.
+    /// The tables of all pools. None where some atom is fresh, and so in no table.
     fn tables_of<'a>(
         alloc: Global,
         pools: &'a [Columns],
@@ -45,8 +45,8 @@ impl Columns {
         Ok(Some(tables))
     }
 
-    /// Adds the text of the store that is kept in these pools at the end of a text, as that of its bag is, and without
-    /// one. So many threads at most put atoms in order and write them, where there are many. False, and nothing is
+    /// Adds the text of the store that is kept in these pools at the end of a text: the text of its bag, but no bag is
+    /// made. At most `threads` threads put atoms in order and write them, where there are many. False, and nothing is
     /// added, where that can't be done: some atoms are fresh; or the rows are in no order, and some atoms have more
     /// than three arguments, or aren't declared.
     pub fn push_text<R: Threads + Sync>(

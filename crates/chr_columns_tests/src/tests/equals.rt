@@ -10,14 +10,14 @@ use std::process::Abort;
 
 const EQUAL_VALUES: &str = ":- chr_constraint item/1. item(X) \\ item(Y) <=> X =:= Y | true.";
 
-/// Where wanted, all atoms that are there come to rest.
+/// Brings all atoms that are there to rest, where that is wanted.
 fn settle(rt: &impl Abort, pool: &mut Columns, is_wanted: bool) {
     if is_wanted {
         assert!(rt; !steps(rt, pool, &[]));
     }
 }
 
-/// Which atoms are at rest.
+/// Which atoms are brought to rest: those before the second zero came, or all.
 #[derive(Clone, Copy)]
 struct Rested {
     first: bool,
@@ -39,7 +39,7 @@ const RESTED: [Rested; 3] = [
     },
 ];
 
-/// The values from 0 to 63, and a second 0. Where wanted, the first of them are at rest, or all.
+/// The values from 0 to 63, and then a second 0, with those at rest that `rested` names.
 fn with_a_second_zero(rt: &(impl Abort + AllocGlobal), rested: Rested) -> Columns {
     let mut pool = columns_for(rt, &[]);
     for value in 0..64 {
@@ -59,7 +59,7 @@ fn expect_zeros(rt: &(impl Abort + AllocGlobal), found: &Rows, rested: Rested) {
     assert!(rt; is_rested(first) == rested.first && is_rested(second) == rested.all);
 }
 
-/// The rule is fired on both zeros, or the second is taken out.
+/// Fires the rule on both zeros, or takes the second out.
 fn use_zeros(
     rt: &(impl Abort + AllocGlobal),
     pool: &mut Columns,
@@ -76,7 +76,7 @@ fn use_zeros(
     }
 }
 
-/// One zero is left.
+/// Asserts that one zero is left.
 fn expect_one_left(rt: &(impl Abort + AllocGlobal), rule: &Rule, rested: Rested, fires: bool) {
     let mut pool = with_a_second_zero(rt, rested);
     use_zeros(rt, &mut pool, rule, rested, fires);

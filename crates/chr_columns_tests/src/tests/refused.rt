@@ -31,7 +31,7 @@ fn atoms(rt: &impl Abort, alloc: Global, pool: &Columns) -> Bag {
     }
 }
 
-/// Where memory is refused, nothing has changed.
+/// Puts an atom in. Where memory is refused, nothing has changed, and it is put in again.
 fn insert(rt: &impl Abort, alloc: Global, pool: &mut Columns, value: i64) {
     let before = atoms(rt, alloc, pool);
     if pool.insert(&[atom(value)]).is_err() {
@@ -40,7 +40,7 @@ fn insert(rt: &impl Abort, alloc: Global, pool: &mut Columns, value: i64) {
     }
 }
 
-/// The same of a step.
+/// Takes a step. Where memory is refused, nothing has changed, and it is taken again.
 fn step(rt: &impl Abort, alloc: Global, pool: &mut Columns, rules: &[Rule]) -> bool {
     let before = atoms(rt, alloc, pool);
     match pool.step(rules) {
@@ -52,7 +52,7 @@ fn step(rt: &impl Abort, alloc: Global, pool: &mut Columns, rules: &[Rule]) -> b
     }
 }
 
-/// The same of an instance that is fired by its heads.
+/// Fires an instance by its heads. Where memory is refused, nothing has changed, and it is fired again.
 fn fire(rt: &impl Abort, alloc: Global, pool: &mut Columns, rule: &Rule) {
     let before = atoms(rt, alloc, pool);
     let Some(found) = pool.find(rule) else {
@@ -64,7 +64,7 @@ fn fire(rt: &impl Abort, alloc: Global, pool: &mut Columns, rule: &Rule) {
     }
 }
 
-/// The same of one that is fired by its rows.
+/// Fires an instance by its rows. Where memory is refused, nothing has changed, and it is fired again.
 fn fire_rows(rt: &impl Abort, alloc: Global, pool: &mut Columns, rule: &Rule) {
     let before = atoms(rt, alloc, pool);
     let Some(found) = pool.find(rule) else {

@@ -53,8 +53,8 @@ fn pool_with(rt: &(impl Abort + AllocGlobal), rules: &[Rule], rows: &[(u16, &[i6
     pool
 }
 
-/// Whether the text that so many threads write of the pools is this one, behind what is there already; where there is
-/// none, nothing is added.
+/// Whether `threads` threads write the wanted text of the pools behind what is there already; where none is wanted,
+/// whether they write nothing.
 fn are_written_by<R: Abort + AllocGlobal + Threads + Sync>(
     rt: &R,
     threads: usize,
@@ -71,7 +71,7 @@ fn are_written_by<R: Abort + AllocGlobal + Threads + Sync>(
     written == wanted.is_some() && text == Some(wanted.unwrap_or(""))
 }
 
-/// The same by one thread.
+/// Like [`are_written_by`], with one thread.
 fn are_written<R: Abort + AllocGlobal + Threads + Sync>(
     rt: &R,
     pools: &[Columns],
@@ -80,7 +80,7 @@ fn are_written<R: Abort + AllocGlobal + Threads + Sync>(
     are_written_by(rt, 1, pools, wanted)
 }
 
-/// The same of one pool that these atoms came into, in this order.
+/// Like [`are_written`], of one pool into which these atoms came in this order.
 fn is_written<R: Abort + AllocGlobal + Threads + Sync>(
     rt: &R,
     rows: &[(u16, &[i64])],
@@ -120,10 +120,10 @@ fn what_has_no_text_here(rt: HostRuntime) {
     assert!(rt; are_written(&rt, &[fresh], None));
 }
 
-/// So many rows have two pools together that several threads write them.
+/// The number of rows, for which several threads are begun.
 const MANY: usize = 24_000;
 
-/// No two of its first multiples have the same rest.
+/// A number with no factor in common with [`MANY`], so that its first `MANY` multiples have different rests.
 const APART: usize = 7_919;
 
 /// Atoms of two symbols, of which no rule has an instance. Their values are in no order.

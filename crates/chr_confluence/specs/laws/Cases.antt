@@ -11,7 +11,7 @@ use Rattle.chr_confluence.specs.Confluence.{Confluent}
 use Rattle.chr_confluence.specs.Lowering.{RulesLower}
 use Rattle.std.specs.Prelude.{◌≢◌}
 
--- steps keep 64-bit values, since the constants of rules are such
+-- steps keep 64-bit values, since the constants of rules are 64-bit values
 abbrev pub StepsKeepValues : Type 0
 StepsKeepValues = (rules : List Rule) → Stays (Step rules) HasValues
 
@@ -37,7 +37,7 @@ DifferentEndsRefute =
     (rules : List Rule) (s t u a b : Store) → HasValues s → Step rules s t → Step rules s u
     → IsNormalForm (Step rules) t a → IsNormalForm (Step rules) u b → a ≢ b → ¬ Confluent rules
 
--- so does a case of 64-bit values, where its sides have normal forms that differ
+-- a case of 64-bit values whose sides have normal forms that differ refutes confluence
 abbrev pub FailingCaseRefutes : Type 0
 FailingCaseRefutes =
     (rules : List Rule) (i j : ℕ) (r1 r2 : Rule) (m : List ℕ) (v1 v2 : Valuation) (a b : Store)

@@ -13,7 +13,7 @@ InstancesGrow = (r : Rule) (v : Valuation) (s t more : Store) → StepBy r v s t
 abbrev pub StepsGrow : Type 0
 StepsGrow = (rules : List Rule) (s t more : Store) → Step rules s t → Step rules (s ⊕ more) (t ⊕ more)
 
--- and so does a run
+-- a run goes on in every larger store
 abbrev pub ReachingGrows : Type 0
 ReachingGrows =
     (rules : List Rule) (s t more : Store) → Reaches (Step rules) s t → Reaches (Step rules) (s ⊕ more) (t ⊕ more)

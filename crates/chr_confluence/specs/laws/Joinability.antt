@@ -14,11 +14,11 @@ abbrev pub ReachedAreJoinable : List Rule → Type 0
 ReachedAreJoinable rules =
     (s t u : Store) → HasValues s → Reaches (Step rules) s t → Reaches (Step rules) s u → AreJoinable (Step rules) t u
 
--- so they are where rules that lower a weight give each store one normal form
+-- where rules that lower a weight give each store one normal form, the stores that it reaches are joinable
 abbrev pub ConfluentAreJoinable : Type 0
 ConfluentAreJoinable =
     (rules : List Rule) (w : Atom → ℕ) → RulesLower w rules → Confluent rules → ReachedAreJoinable rules
 
--- and only there, whether the rules lower a weight or not
+-- where the stores that one store reaches are joinable, it has one normal form, whether the rules lower a weight or not
 abbrev pub JoinableAreConfluent : Type 0
 JoinableAreConfluent = (rules : List Rule) → ReachedAreJoinable rules → Confluent rules

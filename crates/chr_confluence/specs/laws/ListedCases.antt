@@ -29,26 +29,26 @@ EveryCaseIsListed =
     → (σ : Substitution) (rs : List (List ℤ)) → IsMostGeneralUnifier σ (equations_of r1 r2 m)
     → AreRepresentatives rules r1 r2 σ rs → IsImageOfListed rules r1 r2 m σ rs v1 v2
 
--- and what is listed is a case
+-- what is listed is a case
 abbrev pub ListedAreCases : Type 0
 ListedAreCases =
     (r1 r2 : Rule) (m : List ℕ) → IsMatching r1 r2 m
     → (σ : Substitution) → IsMostGeneralUnifier σ (equations_of r1 r2 m)
     → (zs : List ℤ) → guards_hold σ r1 r2 zs ≡ true → IsCase r1 r2 m (left_at σ r1 r2 zs) (right_at σ r1 r2 zs)
 
--- of 64-bit values
+-- the values of a listed case are 64-bit values
 abbrev pub ListedHaveValues : Type 0
 ListedHaveValues =
     (rules : List Rule) (i j : ℕ) (r1 r2 : Rule) → slice_get rules i ≡ Some r1 → slice_get rules j ≡ Some r2
     → (m : List ℕ) (σ : Substitution) (rs : List (List ℤ)) → IsMostGeneralUnifier σ (equations_of r1 r2 m)
     → AreRepresentatives rules r1 r2 σ rs → (zs : List ℤ) → In zs rs → HasValues (listed_store σ r1 r2 m zs)
 
--- so rules that lower a weight are confluent where the listed cases are joinable
+-- rules that lower a weight are confluent where the listed cases are joinable
 abbrev pub ListedMakeConfluent : Type 0
 ListedMakeConfluent =
     (rules : List Rule) (w : Atom → ℕ) → RulesLower w rules → ListedAreJoinable rules → Confluent rules
 
--- and a listed case refutes confluence, where its sides have normal forms that differ
+-- a listed case whose sides have normal forms that differ refutes confluence
 abbrev pub FailingListedRefutes : Type 0
 FailingListedRefutes =
     (rules : List Rule) (i j : ℕ) (r1 r2 : Rule) → slice_get rules i ≡ Some r1 → slice_get rules j ≡ Some r2

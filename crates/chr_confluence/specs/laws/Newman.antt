@@ -12,8 +12,8 @@ abbrev pub NormalFormsExist : Type 0
 NormalFormsExist =
     (rules : List Rule) (w : Atom → ℕ) → RulesLower w rules → (s : Store) → (t : Store) × IsNormalForm (Step rules) s t
 
--- at the stores that pass a test which steps keep: where the ends of any two steps from one are joinable, each has one
--- normal form
+-- For the stores that pass a test which steps keep: where the ends of any two steps from one such store are joinable,
+-- each such store has one normal form.
 abbrev pub LocalConfluenceSuffices : Type 0
 LocalConfluenceSuffices =
     (rules : List Rule) (w : Atom → ℕ) (ok : Store → Bool) → RulesLower w rules

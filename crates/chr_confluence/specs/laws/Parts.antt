@@ -17,13 +17,13 @@ whole rules ss = sum_of (Step rules) bag.empty ◌⊕◌ ss
 abbrev pub AreRested : List Rule → List Store → List Store → Type 0
 AreRested rules ss ts = AreNormalForms (Step rules) bag.empty ◌⊕◌ ss ts
 
--- what the rested parts' sum comes to is a normal form of the whole
+-- a normal form of the sum of the rested parts is one of the whole
 abbrev pub PartsReach : Type 0
 PartsReach =
     (rules : List Rule) (ss ts : List Store) (t : Store) → AreRested rules ss ts
     → IsNormalForm (Step rules) (whole rules ts) t → IsNormalForm (Step rules) (whole rules ss) t
 
--- and for confluent rules the only one
+-- for confluent rules a normal form of the sum of the rested parts is the only one of the whole
 abbrev pub PartsDetermine : Type 0
 PartsDetermine =
     (rules : List Rule) (ss ts : List Store) (t u : Store) → Confluent rules → HasValues (whole rules ss)

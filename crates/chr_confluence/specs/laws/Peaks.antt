@@ -13,7 +13,7 @@ PeaksCommuteOrOverlap =
     (r1 r2 : Rule) (v1 v2 : Valuation) (s t u : Store) → StepBy r1 v1 s t → StepBy r2 v2 s u
     → Commute r1 r2 v1 v2 t u ⊎ HoldsCase r1 r2 v1 v2 s
 
--- and the matching of a case is one of those of the two rules
+-- the matching of a case is one of those of the two rules
 abbrev pub CasesAreMatched : Type 0
 CasesAreMatched = (r1 r2 : Rule) (m : List ℕ) (v1 v2 : Valuation) → IsCase r1 r2 m v1 v2 → IsMatching r1 r2 m
 

@@ -9,7 +9,7 @@ use Rattle.chr_confluence.specs.Unifiers.{Substitution, IsMostGeneralUnifier, Ha
 abbrev pub UnifiersExist : Type 0
 UnifiersExist = (es : List (Term × Term)) → HasNoUnifier es ⊎ ((σ : Substitution) × IsMostGeneralUnifier σ es)
 
--- and one only, so every way to find it gives the same
+-- equations have one most general unifier at most, so every way to find it gives the same
 abbrev pub OneUnifier : Type 0
 OneUnifier =
     (σ τ : Substitution) (es : List (Term × Term)) → IsMostGeneralUnifier σ es → IsMostGeneralUnifier τ es
@@ -20,7 +20,7 @@ abbrev pub equation_terms : List (Term × Term) → List Term
 equation_terms [] = []
 equation_terms (e ∷ es) = e.0 ∷ e.1 ∷ equation_terms es
 
--- a variable that does not stand for itself stands in the equations, and so does what stands for it
+-- a variable that does not stand for itself is a term of the equations, and the term that it stands for is one
 abbrev pub TermsStand : Type 0
 TermsStand =
     (σ : Substitution) (es : List (Term × Term)) → IsMostGeneralUnifier σ es

@@ -38,7 +38,7 @@ abbrev pub solve : Substitution → List (Term × Term) → Option Substitution
 solve σ [] = Some σ
 solve σ (e ∷ es) = option_and_then (λ τ. solve τ es) (unify_terms σ (class_of σ e.0) (class_of σ e.1))
 
--- None is given only where there is no unifier, and else a most general one
+-- the answer is a most general unifier, or None where there is no unifier
 abbrev pub Solved : List (Term × Term) → Option Substitution → Type 0
 Solved es None = HasNoUnifier es
 Solved es (Some σ) = IsMostGeneralUnifier σ es

@@ -24,7 +24,7 @@ fn batch(alloc: Global, first: &[u8], second: &[u8]) -> Result<Vec<u8>, AllocErr
 }
 
 /// Whether two records that are appended to a new feed are told to be kept, and how many a crash leaves, where the disk
-/// stops after so many calls. None where the feed isn't made.
+/// stops after `calls` calls. None where the feed isn't made.
 fn kept_in_memory(rt: &impl Abort, alloc: Global, calls: u64) -> Option<(bool, usize)> {
     let batch = batch(alloc, b"one", b"two").expect(rt, "memory");
     let mut feed = Feed::create(Fuse::new(Memory::new(alloc), calls)).ok()?;
@@ -32,7 +32,7 @@ fn kept_in_memory(rt: &impl Abort, alloc: Global, calls: u64) -> Option<(bool, u
     Some((told, found.texts.len()))
 }
 
-/// The same, where writes tear into old and new bytes, and what was written stays.
+/// Like [`kept_in_memory`], where writes tear into old and new bytes, and what was written stays.
 fn kept_in_lasting(rt: &impl Abort, alloc: Global, calls: u64) -> Option<(bool, usize)> {
     let batch = batch(alloc, b"one", b"two").expect(rt, "memory");
     let mut feed = Feed::create(Fuse::new(Lasting::new(alloc), calls)).ok()?;
@@ -40,7 +40,8 @@ fn kept_in_lasting(rt: &impl Abort, alloc: Global, calls: u64) -> Option<(bool, 
     Some((told, found.texts.len()))
 }
 
-/// What is to come of so many calls: three make a feed, and with so many more the records are told, and are found.
+/// What `calls` calls have to leave: three make a feed, and from the two other numbers on the records are told, and
+/// found.
 fn expected(calls: u64, told_from: u64, found_from: u64) -> Option<(bool, usize)> {
     if calls < 3 {
         return None;

@@ -31,7 +31,7 @@ slots_of n hashes = map (λ h. h % n) hashes
 abbrev pub slot_of : List ℕ → List ℕ → ℕ → ℕ
 slot_of heads hashes row = get_or (slots_of (length heads) hashes) row 0
 
--- a place, its row's number and one, is 0 or that of a live row of the slot
+-- the place, which is a row's number + 1, is 0 or that of a live row of the slot
 abbrev pub IsLivePlace : List ℕ → List ℕ → List Bool → ℕ → ℕ → Type 0
 IsLivePlace heads hashes alive slot place =
     0 < place → (slot_of heads hashes (place - 1) ≡ slot) × (get_or alive (place - 1) false ≡ true)

@@ -17,7 +17,7 @@ pairs_of [] rights = []
 pairs_of (left ∷ lefts) [] = []
 pairs_of (left ∷ lefts) (right ∷ rights) = pair_of left right ∷ pairs_of lefts rights
 
--- both have as many rows
+-- both lists have as many rows
 abbrev pub AreAsMany : List (Option Entry) → List (Option Entry) → Type 0
 AreAsMany lefts rights = length lefts ≡ length rights
 

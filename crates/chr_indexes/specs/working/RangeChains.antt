@@ -28,13 +28,13 @@ row_slot n rows r = (row_at rows r).hash % n
 abbrev pub LivesIn : ℕ → List Row → ℕ → ℕ → Type 0
 LivesIn n rows slot r = (row_slot n rows r ≡ slot) × ((row_at rows r).alive ≡ true)
 
--- a place of the slot, of which no live row below the bound lies at or above it
+-- the place is 0 or that of a row of the slot, and each live row of the slot below the bound lies below the place
 pub record IsNewest (n : ℕ) (rows : List Row) (bound slot place : ℕ) : Type 0 where
   pub within : place ≤ bound
   pub of_slot : 0 < place → row_slot n rows (place - 1) ≡ slot
   pub none_above : (q : ℕ) → q < bound → LivesIn n rows slot q → q < place
 
--- the link leads down the chain of the row, and has the bounds of what a jump leaves behind
+-- the link leads down the chain of the row, and has the bounds of the rows that a jump skips
 pub record IsLink (n : ℕ) (rows : List Row) (r : ℕ) (l : Link) : Type 0 where
   pub next : IsNewest n rows r (row_slot n rows r) l.next
   pub jump : l.jump ≤ r

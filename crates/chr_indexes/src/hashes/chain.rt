@@ -7,8 +7,7 @@ ghost use Rattle.chr_indexes.specs.working.HashEntries.{LiesBelow, AreChained, I
 use crate::hashes::row::Row;
 use crate::slots::slot_for;
 
-/// A place of a slot, of which no live row of the slot lies at or above. Dead rows on the way are taken out of the
-/// chain.
+/// The place of the newest live row of a slot, or 0. Dead rows on the way are taken out of the chain.
 pub(crate) fn first_live(rows: &[Row], heads: &mut [u32], slot: u32) -> u32
     requires chained { AreChained (length heads.old) rows.now heads.old }
     requires slot { slot < length heads.old }
@@ -30,7 +29,7 @@ pub(crate) fn first_live(rows: &[Row], heads: &mut [u32], slot: u32) -> u32
     0
 }
 
-/// The same, below a row of the slot.
+/// Like [`first_live`], but of the rows of a row's slot that lie below it.
 pub(crate) fn next_live(rows: &mut [Row], heads: &[u32], row: u32) -> u32
     requires chained { AreChained (length heads.now) rows.old heads.now }
     requires row { row < length rows.old }
@@ -56,7 +55,7 @@ pub(crate) fn next_live(rows: &mut [Row], heads: &[u32], row: u32) -> u32
     0
 }
 
-/// The same, at the row or below it.
+/// Like [`next_live`], but the row itself counts, if it lives.
 pub(crate) fn live_from(rows: &mut [Row], heads: &[u32], row: u32) -> u32
     requires chained { AreChained (length heads.now) rows.old heads.now }
     requires row { row < length rows.old }
@@ -76,7 +75,7 @@ pub(crate) fn live_from(rows: &mut [Row], heads: &[u32], row: u32) -> u32
     next_live(rows, heads, row)
 }
 
-/// Whether there is such a row, alive or dead, and it has this hash.
+/// Whether there is a row of this number, alive or dead, and it has this hash.
 pub(crate) fn is_at(rows: &[Row], row: u32, hash: u32) -> bool
     ensures { OnTrue result ((row < length rows.now) × (get_or (hashes_of rows.now) row 0 ≡ hash)) }
 {

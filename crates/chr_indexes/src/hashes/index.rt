@@ -35,7 +35,7 @@ impl Model for Index {
 }
 
 impl Index {
-    /// The one of no rows.
+    /// The index of no rows.
     pub fn new(alloc: Global) -> Result<Index, AllocError>
         ensures { IfOk result (λ i. i.rows ≡ []) }
     {
@@ -45,7 +45,7 @@ impl Index {
         })
     }
 
-    /// Makes room for this many rows more. The slots grow with the rows.
+    /// Makes room for `more` rows more. The slots grow with the rows. No row changes, even where memory is refused.
     pub fn reserve(&mut self, more: usize) -> Result<(), AllocError>
         requires { length self.old.rows + more < 2 ^ 32 }
         ensures rows { self.new.rows ≡ self.old.rows }
@@ -61,7 +61,7 @@ impl Index {
         Ok(())
     }
 
-    /// One more row, for which there is room.
+    /// Adds a row, for which there is room.
     pub fn push(&mut self, hash: u32)
         requires room { length self.old.rows < self.old.room }
         requires few { length self.old.rows + 1 < 2 ^ 32 }
@@ -85,7 +85,7 @@ impl Index {
         self.rows.len()
     }
 
-    /// Forgets all rows. The room stays, and is room for as many.
+    /// Forgets all rows. The room for them stays.
     pub fn clear(&mut self)
         ensures rows { self.new.rows ≡ [] }
         ensures room { self.new.room ≡ self.old.room }
@@ -95,7 +95,7 @@ impl Index {
         self.heads.fill(0);
     }
 
-    /// A row dies.
+    /// Marks a row as dead. It keeps its number.
     pub fn kill(&mut self, row: u32)
         requires { row < length self.old.rows }
         ensures rows { self.new.rows ≡ set self.old.rows row None }
@@ -114,7 +114,8 @@ impl Index {
         self.first_place(hash).checked_sub(1)
     }
 
-    /// The newest live row with this hash below this row. It is near where the row lives and has the hash.
+    /// The newest live row with this hash below `row`. The search begins at the row where that lives and has the hash,
+    /// and else at the newest.
     pub fn next(&mut self, hash: u32, row: u32) -> Option<u32>
         ensures same { self.new ≡ self.old }
         ensures below { IfSome result (λ next. next < row) }
@@ -125,8 +126,8 @@ impl Index {
         self.place_below(hash, row).checked_sub(1)
     }
 
-    /// The newest live row with this hash at this row or below it. The row itself may be dead, or past the last. It is
-    /// near where the row had the hash.
+    /// The newest live row with this hash at `row` or below it. The row may be dead, or past the last. The search
+    /// begins at the row where that has the hash, and else at the newest.
     pub fn at_or_below(&mut self, hash: u32, row: u32) -> Option<u32>
         ensures same { self.new ≡ self.old }
         ensures at_or_below { IfSome result (λ next. next ≤ row) }
@@ -137,7 +138,7 @@ impl Index {
         self.place_at_or_below(hash, row).checked_sub(1)
     }
 
-    /// The place, its number and one, of the newest live row with this hash, or 0.
+    /// The place, which is the number + 1, of the newest live row with this hash, or 0.
     fn first_place(&mut self, hash: u32) -> u32
         ensures same { self.new ≡ self.old }
         ensures within { result ≤ length self.old.rows }
@@ -149,7 +150,7 @@ impl Index {
         seek(&mut self.rows, &self.heads, hash, at)
     }
 
-    /// The same, below a live row with this hash.
+    /// Like [`Index::first_place`], but below a live row with this hash.
     fn next_place(&mut self, hash: u32, row: u32) -> u32
         requires { get_or self.old.rows row None ≡ Some hash }
         ensures same { self.new ≡ self.old }
@@ -168,7 +169,7 @@ impl Index {
         is_at(&self.rows, row, hash) && self.rows[row as usize].alive
     }
 
-    /// The same, below any row.
+    /// Like [`Index::first_place`], but below any row.
     fn place_below(&mut self, hash: u32, row: u32) -> u32
         ensures same { self.new ≡ self.old }
         ensures within { result ≤ row }
@@ -184,7 +185,7 @@ impl Index {
         self.place_at_or_below(hash, row - 1)
     }
 
-    /// The same, at any row or below it.
+    /// Like [`Index::first_place`], but at any row or below it.
     fn place_at_or_below(&mut self, hash: u32, row: u32) -> u32
         ensures same { self.new ≡ self.old }
         ensures within { result ≤ row + 1 }
@@ -198,7 +199,7 @@ impl Index {
         seek(&mut self.rows, &self.heads, hash, at)
     }
 
-    /// The same, down from the newest row with this hash.
+    /// Like [`Index::place_at_or_below`], but the search begins at the newest row with this hash.
     fn down_to(&mut self, hash: u32, row: u32) -> u32
         ensures same { self.new ≡ self.old }
         ensures within { result ≤ row + 1 }

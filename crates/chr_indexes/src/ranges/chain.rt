@@ -85,8 +85,8 @@ pub(crate) fn relink(rows: &[Row], chains: &mut Chains)
     }
 }
 
-/// Where the search for values in a range goes on below a row, in the chain of its slot: a place, above which no live
-/// row has one.
+/// Where a search for values in a range goes on below a row, in the chain of its slot: a place above which no live row
+/// below the row has such a value.
 ///
 /// The row's link is made anew, since its bounds are too wide where rows have died.
 fn below(rows: &[Row], chains: &mut Chains, range: &Range, row: usize) -> u32
@@ -141,7 +141,7 @@ pub(crate) fn seek(rows: &[Row], chains: &mut Chains, hash: u32, range: &Range, 
     0
 }
 
-/// Whether there is such a row, alive or dead, and it has this hash.
+/// Whether there is a row of this number, alive or dead, and it has this hash.
 pub(crate) fn is_at(rows: &[Row], row: u32, hash: u32) -> bool
     ensures { OnTrue result ((row < length rows.now) × ((row_at rows.now row).hash ≡ hash)) }
 {

@@ -8,9 +8,10 @@ use crate::ranges::range::Range;
 use std::alloc::{AllocError, Global};
 use std::marker::Model;
 
-/// Rows that are found by a hash and ranges of two values: an index by each. A look-up goes down in turns by the one
-/// and by the other to the next row that both have, so that what either leaves behind is left behind. Contracts see the
-/// hash and both values of each live row, and for how many rows there is room.
+/// Rows that are found by a hash and ranges of two values: one index by the hash and the first value, and one by the
+/// hash and the second. A look-up goes down by the one and by the other in turns, to the next row that both have, so
+/// that it skips what either skips. Contracts see the hash and both values of each live row, and for how many rows
+/// there is room.
 #[derive(Drop)]
 pub struct Crossing {
     first: Index,
@@ -34,8 +35,8 @@ impl Model for Crossing {
     ghost invariant = { λ c. AreAsMany c.first.rows c.second.rows };
 }
 
-/// From a place with a value in the first index that its range allows, or 0, down to the newest whose values both
-/// ranges allow, or 0.
+/// The place of the newest row, at this place or below, whose values both ranges allow, or 0. `place` is 0 or that of a
+/// row whose first value its range allows.
 fn cross(
     left: &mut Index,
     right: &mut Index,
@@ -65,7 +66,7 @@ fn cross(
 }
 
 impl Crossing {
-    /// The one of no rows.
+    /// The crossing of no rows.
     pub fn new(alloc: Global) -> Result<Crossing, AllocError>
         ensures { IfOk result (λ c. c.rows ≡ []) }
     {
@@ -75,7 +76,7 @@ impl Crossing {
         })
     }
 
-    /// Makes room for this many rows more.
+    /// Makes room for `more` rows more. No row changes, even where memory is refused.
     pub fn reserve(&mut self, more: usize) -> Result<(), AllocError>
         requires { length self.old.rows + more < 2 ^ 32 }
         ensures rows { self.new.rows ≡ self.old.rows }
@@ -86,7 +87,7 @@ impl Crossing {
         Ok(())
     }
 
-    /// One more row, for which there is room.
+    /// Adds a row, for which there is room.
     pub fn push(&mut self, hash: u32, first: i64, second: i64)
         requires room { length self.old.rows < self.old.room }
         requires few { length self.old.rows + 1 < 2 ^ 32 }
@@ -98,7 +99,7 @@ impl Crossing {
         self.second.push(hash, second);
     }
 
-    /// Forgets all rows. The room stays, and is room for as many.
+    /// Forgets all rows. The room for them stays.
     pub fn clear(&mut self)
         ensures rows { self.new.rows ≡ [] }
         ensures room { self.new.room ≡ self.old.room }
@@ -108,7 +109,7 @@ impl Crossing {
         self.second.clear();
     }
 
-    /// A row dies.
+    /// Marks a row as dead. It keeps its number.
     pub fn kill(&mut self, row: u32)
         requires { row < length self.old.rows }
         ensures rows { self.new.rows ≡ set self.old.rows row None }
@@ -130,7 +131,8 @@ impl Crossing {
         cross(&mut self.first, &mut self.second, hash, first, second, from).checked_sub(1)
     }
 
-    /// The same, below this row. It is near where the row lives and has the hash.
+    /// Like [`Crossing::first`], but below `row`. The search begins at the row where that lives and has the hash, and
+    /// else at the newest.
     pub fn next(&mut self, hash: u32, first: &Range, second: &Range, row: u32) -> Option<u32>
         ensures same { self.new ≡ self.old }
         ensures below { IfSome result (λ next. next < row) }
@@ -144,8 +146,8 @@ impl Crossing {
         cross(&mut self.first, &mut self.second, hash, first, second, from).checked_sub(1)
     }
 
-    /// The newest live row with this hash and values in the ranges at this row or below it. The row itself may be dead,
-    /// or past the last. It is near where the row had the hash.
+    /// Like [`Crossing::first`], but at `row` or below it. The row may be dead, or past the last. The search begins at
+    /// the row where that has the hash, and else at the newest.
     pub fn at_or_below(&mut self, hash: u32, first: &Range, second: &Range, row: u32) -> Option<u32>
         ensures same { self.new ≡ self.old }
         ensures at_or_below { IfSome result (λ next. next ≤ row) }

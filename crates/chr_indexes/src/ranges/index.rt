@@ -37,7 +37,7 @@ impl Model for Index {
 }
 
 impl Index {
-    /// The one of no rows.
+    /// The index of no rows.
     pub fn new(alloc: Global) -> Result<Index, AllocError>
         ensures { IfOk result (λ i. i.rows ≡ []) }
     {
@@ -50,7 +50,7 @@ impl Index {
         })
     }
 
-    /// Makes room for this many rows more. The slots grow with the rows.
+    /// Makes room for `more` rows more. The slots grow with the rows. No row changes, even where memory is refused.
     pub fn reserve(&mut self, more: usize) -> Result<(), AllocError>
         requires { length self.old.rows + more < 2 ^ 32 }
         ensures rows { self.new.rows ≡ self.old.rows }
@@ -67,7 +67,7 @@ impl Index {
         Ok(())
     }
 
-    /// One more row, for which there is room.
+    /// Adds a row, for which there is room.
     pub fn push(&mut self, hash: u32, value: i64)
         requires room { length self.old.rows < self.old.room }
         requires few { length self.old.rows + 1 < 2 ^ 32 }
@@ -84,7 +84,7 @@ impl Index {
         join(&self.rows, &mut self.chains, row);
     }
 
-    /// Forgets all rows. The room stays, and is room for as many.
+    /// Forgets all rows. The room for them stays.
     pub fn clear(&mut self)
         ensures rows { self.new.rows ≡ [] }
         ensures room { self.new.room ≡ self.old.room }
@@ -95,7 +95,7 @@ impl Index {
         self.chains.heads.fill(0);
     }
 
-    /// A row dies.
+    /// Marks a row as dead. It keeps its number.
     pub fn kill(&mut self, row: u32)
         requires { row < length self.old.rows }
         ensures rows { self.new.rows ≡ set self.old.rows row None }
@@ -115,7 +115,8 @@ impl Index {
         self.first_place(hash, range).checked_sub(1)
     }
 
-    /// The same, below this row. It is near where the row lives and has the hash.
+    /// Like [`Index::first`], but below `row`. The search begins at the row where that lives and has the hash, and else
+    /// at the newest.
     pub fn next(&mut self, hash: u32, range: &Range, row: u32) -> Option<u32>
         ensures same { self.new ≡ self.old }
         ensures below { IfSome result (λ next. next < row) }
@@ -127,8 +128,8 @@ impl Index {
         self.place_below(hash, range, row).checked_sub(1)
     }
 
-    /// The newest live row with this hash and a value in the range at this row or below it. The row itself may be dead,
-    /// or past the last. It is near where the row had the hash.
+    /// Like [`Index::first`], but at `row` or below it. The row may be dead, or past the last. The search begins at the
+    /// row where that has the hash, and else at the newest.
     pub fn at_or_below(&mut self, hash: u32, range: &Range, row: u32) -> Option<u32>
         ensures same { self.new ≡ self.old }
         ensures at_or_below { IfSome result (λ next. next ≤ row) }
@@ -140,7 +141,7 @@ impl Index {
         self.place_at_or_below(hash, range, row).checked_sub(1)
     }
 
-    /// The place, its number and one, of the newest live row with this hash and a value in the range, or 0.
+    /// The place, which is the number + 1, of the newest live row with this hash and a value in the range, or 0.
     pub(crate) fn first_place(&mut self, hash: u32, range: &Range) -> u32
         ensures same { self.new ≡ self.old }
         ensures within { result ≤ length self.old.rows }
@@ -151,7 +152,7 @@ impl Index {
         seek(&self.rows, &mut self.chains, hash, range, from)
     }
 
-    /// The same, below a live row with this hash.
+    /// Like [`Index::first_place`], but below a live row with this hash.
     fn next_place(&mut self, hash: u32, range: &Range, row: u32) -> u32
         requires { HasEntryHash self.old.rows hash row }
         ensures same { self.new ≡ self.old }
@@ -170,7 +171,7 @@ impl Index {
         is_at(&self.rows, row, hash) && self.rows[row as usize].alive
     }
 
-    /// The same, below any row.
+    /// Like [`Index::first_place`], but below any row.
     pub(crate) fn place_below(&mut self, hash: u32, range: &Range, row: u32) -> u32
         ensures same { self.new ≡ self.old }
         ensures within { result ≤ row }
@@ -186,7 +187,7 @@ impl Index {
         self.place_at_or_below(hash, range, row - 1)
     }
 
-    /// The same, at any row or below it.
+    /// Like [`Index::first_place`], but at any row or below it.
     pub(crate) fn place_at_or_below(&mut self, hash: u32, range: &Range, row: u32) -> u32
         ensures same { self.new ≡ self.old }
         ensures within { result ≤ row + 1 }
@@ -199,7 +200,8 @@ impl Index {
         seek(&self.rows, &mut self.chains, hash, range, row + 1)
     }
 
-    /// The same, down from the newest row with this hash and a value in the range.
+    /// Like [`Index::place_at_or_below`], but the search begins at the newest row with this hash and a value in the
+    /// range.
     fn down_to(&mut self, hash: u32, range: &Range, row: u32) -> u32
         ensures same { self.new ≡ self.old }
         ensures within { result ≤ row + 1 }

@@ -4,7 +4,7 @@ ghost use Rattle.std.specs.Bool.{OnTrue, OnFalse};
 ghost use Rattle.chr_indexes.specs.RangedRows.{IsIn, IsOther};
 ghost use Rattle.chr_indexes.specs.working.Bounds.{IsInBounds};
 
-/// The values from the least to the most, both among them, but for one. An end that is None bounds nothing, and an
+/// The values from `least` to `most`, both among them, but for `except`. An end that is None bounds nothing, and an
 /// exception that is None leaves nothing out.
 #[derive(Clone, Copy, Debug, Default, PartialEq, Eq)]
 pub struct Range {
@@ -21,7 +21,7 @@ pub(crate) struct Bounds {
 }
 
 impl Bounds {
-    /// Bounds of what lies in either.
+    /// Bounds that have all that lies in either.
     pub(crate) fn with(self, other: Bounds) -> Bounds
         ensures left { (x : ℤ) → IsInBounds self x → IsInBounds result x }
         ensures right { (x : ℤ) → IsInBounds other x → IsInBounds result x }
@@ -45,7 +45,7 @@ impl Range {
         })
     }
 
-    /// Those of its values that are at least this one.
+    /// Those values of the range that are at least `least`.
     pub fn at_least(self, least: i64) -> Range
         ensures narrow { (x : ℤ) → IsIn result x → IsIn self x × (least ≤ℤ x) }
         ensures wide { (x : ℤ) → IsIn self x → least ≤ℤ x → IsIn result x }
@@ -61,7 +61,7 @@ impl Range {
         }
     }
 
-    /// Those of its values that are at most this one.
+    /// Those values of the range that are at most `most`.
     pub fn at_most(self, most: i64) -> Range
         ensures narrow { (x : ℤ) → IsIn result x → IsIn self x × (x ≤ℤ most) }
         ensures wide { (x : ℤ) → IsIn self x → x ≤ℤ most → IsIn result x }
@@ -77,7 +77,7 @@ impl Range {
         }
     }
 
-    /// Those of its values that are not this one; all of them, where it leaves out another one already.
+    /// Those values of the range that are not `except`; all of them, where the range leaves out another value already.
     pub fn but(self, except: i64) -> Range
         ensures narrow { (x : ℤ) → IsIn result x → IsIn self x }
         ensures wide { (x : ℤ) → IsIn self x → ¬ (x ≡ except) → IsIn result x }
@@ -90,7 +90,7 @@ impl Range {
         }
     }
 
-    /// Whether its exception is all that lies within these bounds.
+    /// Whether the range's exception is all that lies within these bounds.
     fn leaves_out(&self, bounds: Bounds) -> bool
         ensures itself { OnFalse result ((x : ℤ) → bounds.low ≡ x → bounds.high ≡ x → IsOther self.now.except x) }
         ensures none { OnTrue result ((x : ℤ) → IsInBounds bounds x → IsOther self.now.except x → ⊥) }

@@ -14,22 +14,26 @@ pub(crate) struct Row {
     pub(crate) alive: bool,
 }
 
-/// How to go on below a row, in the chain of its slot. A place is the number of a row and one, and 0 is the end.
+/// How a look-up goes on below a row, in the chain of its slot. A place is the number of a row and one, and 0 is the
+/// end.
 ///
-/// Chained rows are the roots of trees, one after another, the newest row first: `next` is the row below, and `jump`
-/// the root of the next tree. `bounds` has the values of all live rows of the tree, which are those above `jump`. Two
-/// trees of one rank become the branches of the next row that is pushed, so that a chain of n rows has fewer than
-/// 2 * log2 (n + 1) trees of that depth at most, and a look-up enters no tree whose bounds lie outside its range.
+/// Chained rows are the roots of trees, one after another, the newest row first. Two trees of one rank become the
+/// branches of the next row that is pushed. So a chain of n rows has fewer than 2 * log2 (n + 1) trees, each of that
+/// depth at most. A look-up enters no tree whose bounds lie outside its range.
 #[derive(Clone, Copy, Debug, Default, PartialEq, Eq)]
 pub(crate) struct Link {
+    /// Bounds of the values of all live rows of the row's tree, which are those above `jump`.
     pub(crate) bounds: Bounds,
+    /// The place of the next row below.
     pub(crate) next: u32,
+    /// The place of the root of the next tree.
     pub(crate) jump: u32,
+    /// The depth of the row's tree, from 0 for a row alone.
     pub(crate) rank: u8,
 }
 
 impl Row {
-    /// Bounds that have its value, where it lives.
+    /// Bounds that have the row's value, where it lives.
     pub(crate) fn bounds(&self) -> Bounds
         ensures { self.now.alive ≡ true → IsInBounds result self.now.value }
     {

@@ -31,16 +31,16 @@ RefusesAt coverage rules o e = IsFirstBy coverage rules o → IsRefusalBy covera
 abbrev pub Joins : Coverage → List Rule → Overlap → Type 0
 Joins coverage rules o = (n : ℕ) × HasJoinableCasesBy coverage rules o n
 
--- The overlap has so many cases, and each is joinable, where a number is there.
+-- The overlap has k cases, where k is a number, and each is joinable.
 abbrev pub IsNumberOf : Coverage → List Rule → Overlap → Option ℕ → Type 0
 IsNumberOf coverage rules o k = IfSome k (HasJoinableCasesBy coverage rules o)
 
--- What was looked at are overlaps of these, from a place on, in a row.
+-- The numbers that were found out are those of overlaps in a row, from a place on.
 abbrev pub AreAhead : Coverage → List Rule → List Overlap → Ahead → Type 0
 AreAhead coverage rules os a =
     (n : ℕ) × AllZip (IsNumberOf coverage rules) (take n (drop a.start os)) a.numbers.items
 
--- So many classes have no more order types than an overlap may have, for each of these numbers.
+-- For each number n of the list, n classes have no more order types than an overlap may have.
 abbrev pub HaveFewTypes : List ℤ → List ℕ → Type 0
 HaveFewTypes constants ns = All (λ n. ¬ MoreTypesThan MAX_TYPES n constants) ns
 

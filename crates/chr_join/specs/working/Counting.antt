@@ -38,11 +38,11 @@ IsCountOf constants u n =
 abbrev pub IsCounted : List ℤ → Count → Type 0
 IsCounted constants k = IsCountOf constants k.unified k.number
 
--- what is remembered is so
+-- each number is the count of its guards
 abbrev pub AreCounts : List ℤ → List Count → Type 0
 AreCounts constants ks = All (IsCounted constants) ks
 
--- a number that is there is such a count
+-- where k is a number, it is the count of these guards
 abbrev pub IsCountIfThere : List ℤ → Unified → Option ℕ → Type 0
 IsCountIfThere constants u k = IfSome k (IsCountOf constants u)
 

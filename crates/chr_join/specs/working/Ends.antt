@@ -11,6 +11,6 @@ use Rattle.chr_join.specs.declared.ends.Known.{Known}
 abbrev pub EndsIn : List Rule → Store → Store → Type 0
 EndsIn rules s t = (steps : List Step) × IsPlainComputation rules steps s t
 
--- what is remembered is so
+-- each store's plain derivation ends in the end that is remembered with it
 abbrev pub AreEnds : List Rule → List (Option Known) → Type 0
 AreEnds rules es = All (λ e. IfSome e (λ k. EndsIn rules k.store k.end)) es

@@ -14,7 +14,7 @@ use Rattle.chr_join.specs.Verdicts.{HaveJoinableCasesBy}
 use Rattle.chr_join.specs.Explanations.{IsRefusalBy}
 use Rattle.chr_join.specs.working.Checking.{Joins}
 
--- so many overlaps one first rule has at most
+-- the greatest number of overlaps of one first rule
 abbrev pub MOST_OF_RULE : ℕ
 MOST_OF_RULE = MAX_RULES * (MAX_HEADS + 1) ^ MAX_HEADS
 
@@ -25,7 +25,7 @@ pub record IsPortion (rules : List Rule) (a : ℕ) (p : Portion) : Type 0 where
   pub listed : AreOverlapsBetween rules a p.end p.overlaps.items
   pub few : length p.overlaps.items ≤ (p.end - a) * MOST_OF_RULE
 
--- the overlaps whose first rule stands before the place n have so many cases, and each is joinable
+-- the overlaps whose first rule stands before the place n have `total` cases, and each is joinable
 pub record HaveJoined (coverage : Coverage) (rules : List Rule) (n total : ℕ) : Type 0 where
   pub overlaps : List Overlap
   pub listed : AreOverlapsBetween rules 0 n overlaps
@@ -58,7 +58,7 @@ pub record IsCopy (rules : List Rule) (o : Overlap) : Type 0 where
   pub second : AreCopies rules (original.second - 1) (o.second - 1)
   pub matching : original.matching.items ≡ o.matching.items
 
--- its sorted cases are joinable, or are those of an overlap with lesser numbers
+-- the overlap's sorted cases are joinable, or are those of an overlap with lesser numbers
 abbrev pub IsSettled : List Rule → Overlap → Type 0
 IsSettled rules o = Joins Sorted rules o ⊎ IsCopy rules o
 

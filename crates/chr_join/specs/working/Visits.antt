@@ -38,7 +38,7 @@ HaveCases s =
     → IsCase r1 r2 s.overlap.matching.items (left_at (classes_of s.unified) r1 r2 zs)
     (right_at (classes_of s.unified) r1 r2 zs)
 
--- where it takes both sides of all cases for equal, they are
+-- where the checker takes both sides of all cases for equal, they are
 abbrev pub TellsEqualSides : Checker → Type 0
 TellsEqualSides v =
     (r1 r2 : Rule) → AreRulesOf (rules_in v.weighed.now) v.overlap.now r1 r2

@@ -13,7 +13,7 @@ FailsAt left cmp right lane =
     FitsSigned w64 (get_or left lane (pos 0)) → FitsSigned w64 (get_or right lane (pos 0))
     → compares cmp (int_cmp (get_or left lane (pos 0)) (get_or right lane (pos 0))) ≡ false
 
--- the same against one value
+-- the comparison with one value fails at a lane, where the list has a 64-bit value there
 abbrev pub FailsAgainst : List ℤ → Cmp → ℤ → ℕ → Type 0
 FailsAgainst left cmp value lane =
     FitsSigned w64 (get_or left lane (pos 0)) → compares cmp (int_cmp (get_or left lane (pos 0)) value) ≡ false

@@ -20,7 +20,7 @@ may_follow qs m p (suc k) = not (names m (suc k)) && has_same_symbol p (get_or q
 abbrev pub with_entry : Overlap → ℕ → Overlap
 with_entry o e = record o { matching = record { items = o.matching.items ++ e ∷ [] } }
 
--- those with this entry next, where it may follow
+-- the overlaps that go on from o with this entry, where it may follow
 abbrev pub going_on : (Overlap → List Overlap) → List Pattern → Overlap → Pattern → ℕ → List Overlap
 going_on deeper qs o p e = if may_follow qs o.matching.items p e then deeper (with_entry o e) else []
 
@@ -31,7 +31,7 @@ overlaps_behind r s [] o =
 overlaps_behind r s (p ∷ ps) o =
     flat_map (going_on (overlaps_behind r s ps) (heads_of s) o p) (range_with_len 0 (length (heads_of s) + 1))
 
--- no entry yet
+-- an overlap of the rules at the places i and j, with no entry yet
 abbrev pub begun : ℕ → ℕ → Overlap
 begun i j = record { first = i + 1; second = j + 1; matching = record { items = [] } }
 
@@ -44,6 +44,6 @@ overlaps_at i j (Some r) (Some s) = overlaps_behind r s (heads_of r) (begun i j)
 abbrev pub overlaps_of_pair : List Rule → ℕ → ℕ → List Overlap
 overlaps_of_pair rules i j = overlaps_at i j (slice_get rules i) (slice_get rules j)
 
--- those of a rule with itself and all after it
+-- the overlaps of a rule with itself and all after it
 abbrev pub overlaps_of_rule : List Rule → ℕ → List Overlap
 overlaps_of_rule rules i = flat_map (overlaps_of_pair rules i) (range_with_len i (length rules - i))

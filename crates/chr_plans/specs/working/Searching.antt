@@ -35,7 +35,7 @@ Past r rows p places n q heads seats at =
     (hs : List Atom) (ss : List Seat) → IsSeated r rows p hs ss → AgreeAtKnown places p n hs ss heads seats
     → ¬ (at ≤ (seat ss q).row)
 
--- at the place of the next look-up, where there is one
+-- `Past` at the place of the next look-up, where there is one
 abbrev pub PastFrom : Rule → Tables → ℕ → List Lookup → ℕ → List Atom → List Seat → ℕ → Type 0
 PastFrom r rows p lookups n heads seats at =
     n < length lookups → Past r rows p (looked_in lookups) n (get_or (looked_in lookups) n 0) heads seats at
@@ -51,11 +51,11 @@ abbrev pub is_ready : List ℕ → Source → Bool
 is_ready known (Constant c) = true
 is_ready known (Argument q c) = is_in q known
 
--- all sources of a key are
+-- all sources of a key are ready
 abbrev pub are_ready : List ℕ → List Key → Bool
 are_ready known key = list_all (λ k. is_ready known k.source) key
 
--- there is the index of a look-up
+-- the look-up has an index
 abbrev pub IsIndexed : Columns → Option Lookup → Type 0
 IsIndexed columns None = ⊥
 IsIndexed columns (Some l) = IsTrue (is_some (columns l.table l.index))

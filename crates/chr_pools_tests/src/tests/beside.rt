@@ -20,12 +20,19 @@ const MAX_ATOMS: usize = 10;
 /// How often each thing came.
 #[derive(Clone, Copy, Debug, Default)]
 pub struct Tally {
+    /// Questions for atoms that were all there.
     pub there: usize,
+    /// Removals of atoms that were all there.
     pub removed: usize,
+    /// Instances that were fired.
     pub fired: usize,
+    /// Instances whose removed heads were taken out by their rows.
     pub taken: usize,
+    /// Removals of other atoms after an instance was found and before it was used, so that atoms moved.
     pub moved: usize,
+    /// Single steps.
     pub steps: usize,
+    /// Calls for a step that found the pool at rest.
     pub rests: usize,
 }
 
@@ -52,12 +59,16 @@ impl Tally {
     }
 }
 
-/// The pool, and what it has to have.
+/// A pool of columns, and what it has to have.
 #[derive(Drop)]
 pub struct Beside {
+    // The pool.
     columns: Columns,
+    // The atoms that it has to have.
     bag: Bag,
+    // The values of atoms that are put in.
     values: Vec<i64>,
+    /// How often each thing came.
     pub tally: Tally,
 }
 
@@ -71,7 +82,7 @@ fn are_apart(rows: &[Row]) -> bool {
     true
 }
 
-/// What is in the pool.
+/// The atoms in the pool.
 fn bag_of(rt: &impl Abort, alloc: Global, columns: &Columns) -> Bag {
     columns.bag(alloc).expect(rt, "memory")
 }
@@ -173,7 +184,7 @@ impl Beside {
         }
     }
 
-    /// An instance, where a plain list has one, in different rows. Then at times other atoms move to other rows.
+    /// An instance, in different rows, where a plain list has one. Then at times other atoms move to other rows.
     fn find(
         &mut self,
         rt: &impl Abort,
@@ -220,7 +231,7 @@ impl Beside {
         count(&mut self.tally.taken, true);
     }
 
-    /// One step, which is one of those of the definitions, or none where they have none.
+    /// One step, which is one that the definitions allow, or none where they allow none.
     fn step(&mut self, rt: &impl Abort, alloc: Global, rules: &[Rule]) {
         let stepped = takes_step(rt, &mut self.columns, rules);
         let after = bag_of(rt, alloc, &self.columns);

@@ -10,7 +10,7 @@ use std::process::Abort;
 /// The number of programs.
 const PROGRAMS: usize = 150;
 
-/// The number of those with up to four heads a rule.
+/// The number of programs with up to four heads a rule.
 const WIDE_PROGRAMS: usize = 150;
 
 /// The calls of each sequence.
@@ -25,7 +25,7 @@ fn text_of(rt: &impl Abort, alloc: Global, random: &mut Random, is_wide: bool) -
     }
 }
 
-/// So many programs that lower.
+/// `count` programs that lower.
 fn programs(
     rt: &impl Abort,
     alloc: Global,
@@ -61,7 +61,7 @@ fn run_sequence(
     beside.tally
 }
 
-/// A sequence of calls for each of so many programs.
+/// A sequence of calls for each of `count` programs but the last.
 fn run_sequences(
     rt: &impl Abort,
     alloc: Global,
@@ -77,7 +77,7 @@ fn run_sequences(
     all
 }
 
-/// So often each thing comes at least.
+/// How often each thing has to come at least.
 const LEAST: Tally = Tally {
     there: 200,
     removed: 200,
@@ -94,7 +94,7 @@ fn calls_at_random(rt: HostRuntime) {
     assert!(rt; all.is_at_least(&LEAST), "{all:?}");
 }
 
-/// So often each thing comes at least with up to four heads a rule.
+/// How often each thing has to come at least with up to four heads a rule.
 const LEAST_OF_WIDE: Tally = Tally {
     there: 50,
     removed: 50,

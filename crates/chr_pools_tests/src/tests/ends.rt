@@ -15,7 +15,7 @@ pub struct End {
     pub steps: u64,
 }
 
-/// The pool of columns for a program, with these atoms. Keys are hashed under another seed for each number of them.
+/// The pool of columns for a program, with these atoms. The seed under which keys are hashed is the number of atoms.
 fn columns_of(rt: &impl Abort, alloc: Global, weighed: &Weighed, store: &Bag) -> Columns {
     let seed = store.atoms().len() as u64;
     let mut pool = Columns::seeded(alloc, seed, weighed.program().rules()).expect(rt, "memory");

@@ -32,7 +32,7 @@ pub fn fired_in_list(
     list.bag(alloc).expect(rt, "memory")
 }
 
-/// The heads of a rule, or none, and some atoms more.
+/// The heads of a rule, or none, and some more atoms.
 pub fn more_atoms(
     rt: &impl Abort,
     alloc: Global,

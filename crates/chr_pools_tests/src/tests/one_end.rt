@@ -42,13 +42,18 @@ fn are_small(rules: &[Rule]) -> bool {
     true
 }
 
-/// What came of some programs.
+/// What came of some programs and their stores.
 #[derive(Clone, Copy, Debug, Default)]
 struct Tally {
+    // Programs that lower.
     programs: usize,
+    // Stores in which some step was taken.
     moved: usize,
+    // Stores with more than two steps.
     long: usize,
+    // Programs that were accepted.
     accepted: usize,
+    // What the rules had that could fire.
     traits: Traits,
 }
 
@@ -58,7 +63,7 @@ fn plainly_rested(rt: &impl Abort, alloc: Global, weighed: &Weighed, store: &Bag
 }
 
 impl Tally {
-    /// Whether there was so much of everything that the trials tell something.
+    /// Whether there was enough of everything, so that the trials tell something.
     fn is_enough(&self) -> bool {
         self.programs >= 1_000
             && self.accepted >= 100
@@ -83,7 +88,7 @@ impl Tally {
         is_one(&columns.bag, &list.bag) && is_one(&plain, &list.bag)
     }
 
-    /// Whether each of these stores does.
+    /// Whether each of these stores comes to one end in both pools and by the plain derivation.
     fn have_one_end(
         &mut self,
         rt: &impl Abort,
@@ -144,7 +149,7 @@ impl Tally {
     }
 }
 
-/// Stores of some of the rules' heads, and of atoms more.
+/// Stores of some of the rules' heads, and of some more atoms.
 fn stores(rt: &impl Abort, alloc: Global, random: &mut Random, rules: &[Rule]) -> Vec<Bag> {
     let values = values_of_rules(rt, alloc, rules);
     let mut stores = Vec::new(alloc);

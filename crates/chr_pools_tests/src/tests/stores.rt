@@ -27,7 +27,7 @@ pub fn values_of_rules(rt: &impl Abort, alloc: Global, rules: &[Rule]) -> Vec<i6
     stores::values_of_rules(alloc, rules, 1).expect(rt, "memory")
 }
 
-/// So many times the heads of some rule by some of the values, whether or not its guard holds, and some atoms more.
+/// The heads of rules by some of the values, `times` times, whether or not a guard holds, and some more atoms.
 pub fn random_store(
     rt: &impl Abort,
     alloc: Global,

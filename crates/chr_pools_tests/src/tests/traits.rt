@@ -17,13 +17,21 @@ const COMPARISONS: [Cmp; 6] = [
 /// How many rules that could fire on some store of theirs have each trait.
 #[derive(Clone, Copy, Debug, Default)]
 pub struct Traits {
+    // Rules by the number of their heads, from 1.
     heads: [usize; 4],
+    // Rules with each comparison in the guard.
     comparisons: [usize; 6],
+    // Rules with a kept head.
     kept: usize,
+    // Rules with a constant in a head.
     constants: usize,
+    // Rules with a head that has a variable twice.
     repeated: usize,
+    // Rules whose first head shares a variable with another head.
     joined: usize,
+    // Rules with heads of different symbols.
     symbols: usize,
+    // Rules with a head of more than two arguments.
     wide: usize,
 }
 
@@ -45,7 +53,7 @@ fn is_variable_of(term: &Term, terms: &[Term]) -> bool {
     !is_constant(term) && terms.contains(term)
 }
 
-/// Whether a variable stands there twice.
+/// Whether a variable stands twice among the terms.
 fn repeats(terms: &[Term]) -> bool {
     for i in 1..terms.len() {
         if is_variable_of(&terms[i], &terms[..i]) {
@@ -55,7 +63,7 @@ fn repeats(terms: &[Term]) -> bool {
     false
 }
 
-/// Whether a variable of the one stands in the other.
+/// Whether a variable of the left terms stands among the right ones.
 fn joins(left: &[Term], right: &[Term]) -> bool {
     for term in left {
         if is_variable_of(term, right) {
@@ -65,7 +73,7 @@ fn joins(left: &[Term], right: &[Term]) -> bool {
     false
 }
 
-/// Whether the guard has such a comparison.
+/// Whether the guard has a comparison of this sign.
 fn compares(rule: &Rule, cmp: Cmp) -> bool {
     for comparison in rule.guard.as_slice() {
         if comparison.cmp == cmp {
@@ -83,18 +91,23 @@ fn least_of(counts: &[usize]) -> usize {
     least
 }
 
-/// What a head of a rule has, or one of several heads.
+/// What a head of a rule has, or what some head of it has.
 #[derive(Clone, Copy, Default)]
 struct Marks {
+    // A constant.
     constants: bool,
+    // A variable that stands in it twice.
     repeated: bool,
+    // A variable of the first head.
     joined: bool,
+    // Another symbol than the first head.
     symbols: bool,
+    // More than two arguments.
     wide: bool,
 }
 
 impl Marks {
-    /// Those of a head beside the first one.
+    /// What a head has beside the first one.
     fn beside(first: &Pattern, head: &Pattern) -> Marks {
         let mut marks = Marks::alone(head);
         marks.joined = joins(&first.args, &head.args);
@@ -102,7 +115,7 @@ impl Marks {
         marks
     }
 
-    /// Those of a head by itself.
+    /// What a head has by itself.
     fn alone(head: &Pattern) -> Marks {
         Marks {
             constants: has_constant(&head.args),

@@ -25,7 +25,7 @@ fn fewer(rule: &Rule) -> i64 {
     signed(rule.removed.len()).saturating_sub(signed(rule.body.len()))
 }
 
-/// The least and the greatest number of atoms that there are fewer after a step of some rule.
+/// By how many atoms a step of some rule makes a store smaller, at least and at most.
 fn range_of_fewer(rules: &[Rule]) -> (i64, i64) {
     let mut least = i64::MAX;
     let mut most = i64::MIN;
@@ -36,7 +36,7 @@ fn range_of_fewer(rules: &[Rule]) -> (i64, i64) {
     (least, most)
 }
 
-/// Whether so many steps can lead from the store to the end, by the numbers of atoms and the greatest weight.
+/// Whether the number of steps from the store to the end can be right, by the numbers of atoms and the greatest weight.
 fn is_plausible(rules: &[Rule], store: &Bag, end: &End) -> bool {
     let steps = i64::try_from(end.steps).unwrap_or(i64::MAX);
     let lost = signed(store.len()).saturating_sub(signed(end.bag.len()));
@@ -53,7 +53,7 @@ struct Sizes {
     most: usize,
 }
 
-/// One store in both pools.
+/// Rests one store in both pools.
 fn rest_in_both(
     rt: &impl Abort,
     alloc: Global,
@@ -85,7 +85,7 @@ fn rest_in_both(
     count(&mut counts.torn, !is_one(&columns.bag, &list.bag));
 }
 
-/// So many stores of a program in both pools, each with less than so many times the heads of a rule.
+/// `sizes.stores` stores of a program in both pools, each with the heads of less than `sizes.most` rules.
 fn rest_stores(
     rt: &impl Abort,
     alloc: Global,

@@ -14,7 +14,7 @@ pub struct Counts {
 }
 
 impl Counts {
-    /// Those of a program of which no store is counted yet.
+    /// The counts of one program, of which no store is counted yet.
     pub fn of_a_program() -> Counts {
         Counts {
             programs: 1,

@@ -95,7 +95,7 @@ text_read text =
 abbrev pub ProgramsAreRead : Type 0
 ProgramsAreRead = (text : List ℕ) (m : Meaning) → text_read text ≡ Ok m ↔ IsProgramText text m
 
--- what is refused is refused rightly, and each such text is refused
+-- what is refused has that fault at that clause, and each such text is refused
 abbrev pub BadTextsAreRefused : Type 0
 BadTextsAreRefused = (text : List ℕ) (n : Fault) (k : ℕ) → text_read text ≡ Err (Bad n k) ↔ IsRefusedText text n k
 

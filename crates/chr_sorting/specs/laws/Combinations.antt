@@ -10,13 +10,13 @@ abbrev pub CombinationsStandForAll : Type 0
 CombinationsStandForAll =
     (s : Sorts) (ks : List ℕ) (rs : List (List ℤ)) → AreCombinations s ks rs → Cover s ks rs
 
--- and are of 64-bit values
+-- the values of combinations are 64-bit values, where the constants of the sorts are
 abbrev pub CombinationsAreValues : Type 0
 CombinationsAreValues =
     (s : Sorts) (ks : List ℕ) (rs : List (List ℤ)) → ((k : ℕ) → AreValues (s.constants k)) → AreCombinations s ks rs
     → (zs : List ℤ) → In zs rs → AreValues zs
 
--- and there is one list of them
+-- the combinations have one list
 abbrev pub CombinationsAreOne : Type 0
 CombinationsAreOne =
     (s : Sorts) (ks : List ℕ) (rs ts : List (List ℤ)) → ((k : ℕ) → Rises (s.constants k)) → AreCombinations s ks rs

@@ -20,19 +20,19 @@ pub record AreSameAt (s t : Sorts) (a k : ℕ) : Type 0 where
   pub kind : s.kind (s.sort a k) ≡ t.kind (s.sort a k)
   pub constants : s.constants (s.sort a k) ≡ t.constants (s.sort a k)
 
--- and these are one
+-- any two finest sorts are the same at all positions
 abbrev pub FinestAreOne : Type 0
 FinestAreOne =
     (rules : List Rule) (s t : Sorts) → AreFinest rules s → AreFinest rules t → (a k : ℕ) → k < MAX_ARITY
     → AreSameAt s t a k
 
--- so by all of them an overlap has the same sorted cases
+-- by any two finest sorts an overlap has the same sorted cases
 abbrev pub FinestHaveOneCases : Type 0
 FinestHaveOneCases =
     (rules : List Rule) (s t : Sorts) → AreFinest rules s → AreFinest rules t
     → (o : Overlap) (cs : List Case) → AreSortedCases s rules o cs → AreSortedCases t rules o cs
 
--- or too many combinations
+-- where an overlap has too many combinations by some finest sorts, it has by any
 abbrev pub FinestHaveAsMany : Type 0
 FinestHaveAsMany =
     (rules : List Rule) (s t : Sorts) → AreFinest rules s → AreFinest rules t

@@ -10,7 +10,7 @@ ListsExist =
     (kind : Kind) (cs : List ℤ) (n : ℕ) → length cs + n ≤ 2 ^ 62 → Rises cs → AreValues cs
     → (ls : List (List ℤ)) × AreListsAt kind cs n ls
 
--- and only one
+-- there is only one list of all lists of n values
 abbrev pub ListsAreOne : Type 0
 ListsAreOne =
     (kind : Kind) (cs : List ℤ) (n : ℕ) (ls ms : List (List ℤ)) → Rises cs → AreListsAt kind cs n ls

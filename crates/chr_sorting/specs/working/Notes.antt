@@ -68,7 +68,7 @@ IsBelow n (Joined p q) = (p < n) × (q < n)
 IsBelow n (Stands p c) = p < n
 IsBelow n (Compared p s) = p < n
 
--- one sort in place of another
+-- the sort s, or `low` where it is `high`
 abbrev pub merged : ℕ → ℕ → ℕ → ℕ
 merged low high s = if nat_eq s high then low else s
 
@@ -78,7 +78,7 @@ pub record Joins (notes : List Note) (ts : List ℕ) : Type 0 where
   pub meets : (n : Note) → In n notes → MeetsJoin (sort_in ts) n
   pub least : (f : ℕ → ℕ) → ((n : Note) → In n notes → MeetsJoin f n) → (p : ℕ) → f p ≡ f (sort_in ts p)
 
--- the least kind that tells what this one does, and the sign's answers
+-- the least kind that tells the signs that this kind does, and this sign
 abbrev pub raised : Kind → Cmp → Kind
 raised ordered s = ordered
 raised equal sign.Equal = equal

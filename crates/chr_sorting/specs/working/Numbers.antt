@@ -2,7 +2,7 @@
 use Rattle.std.specs.Prelude.{ℕ, ℤ, pos, ◌+◌, ◌≤◌, ◌≤ℤ◌, ◌<ℤ◌, ◌⊎◌, List, length, take}
 use Rattle.chr_types.specs.OrderTypes.{In, Rises}
 
--- us are the numbers from 0 and below b that are no constants, and the first so many constants are below b
+-- us are the numbers from 0 and below b that are no constants, and the first `passed` constants are below b
 pub record AreNumbersBelow (cs : List ℤ) (passed : ℕ) (us : List ℤ) (b : ℤ) : Type 0 where
   pub from : pos 0 ≤ℤ b
   pub few : b ≤ℤ pos (passed + length us)

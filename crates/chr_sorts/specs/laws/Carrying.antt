@@ -19,17 +19,17 @@ ImagesAdd = (f : Atom → Atom) (s t : Store) → image f (s ⊕ t) ≡ image f 
 abbrev pub ImagesAreWithin : Type 0
 ImagesAreWithin = (f : Atom → Atom) (s t : Store) → IsWithin s t → IsWithin (image f s) (image f t)
 
--- and that of a difference is the difference, where one store is within the other
+-- the image of a difference is the difference of the images, where one store is within the other
 abbrev pub ImagesSubtract : Type 0
 ImagesSubtract = (f : Atom → Atom) (s t : Store) → IsWithin t s → image f (s ⊖ t) ≡ image f s ⊖ image f t
 
--- a step is carried to the step of the instance that the map carries its own to
+-- a map that carries the instance of a step carries the step
 abbrev pub StepsAreCarried : Type 0
 StepsAreCarried =
     (f : Atom → Atom) (r : Rule) (v w : Valuation) (s t : Store) → Carries f r v w → StepBy r v s t
     → StepBy r w (image f s) (image f t)
 
--- and so is a run
+-- a map that carries the instances of steps carries runs
 abbrev pub RunsAreCarried : Type 0
 RunsAreCarried =
     (f : Atom → Atom) (p : Atom → Bool) (rules : List Rule) (s t : Store) → CarriesSteps f p rules → Each p s

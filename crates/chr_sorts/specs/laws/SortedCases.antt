@@ -28,14 +28,14 @@ EveryCaseIsSorted =
     → (σ : Substitution) (rs : List (List ℤ)) → IsMostGeneralUnifier σ (all_equations r1 r2 m)
     → Cover o (class_sorts o σ r1 r2) rs → IsImageOfSorted o r1 r2 m σ rs v1 v2
 
--- and a sorted one is a case
+-- what stands at values at which both guards hold is a case
 abbrev pub SortedAreCases : Type 0
 SortedAreCases =
     (r1 r2 : Rule) (m : List ℕ) → IsMatching r1 r2 m
     → (σ : Substitution) → IsMostGeneralUnifier σ (all_equations r1 r2 m)
     → (zs : List ℤ) → guards_hold σ r1 r2 zs ≡ true → IsCase r1 r2 m (left_at σ r1 r2 zs) (right_at σ r1 r2 zs)
 
--- of 64-bit values, where those of the free classes are such
+-- the case at 64-bit values of the free classes has 64-bit values
 abbrev pub SortedHaveValues : Type 0
 SortedHaveValues =
     (r1 r2 : Rule) (m : List ℕ) → IsMatching r1 r2 m
@@ -49,13 +49,13 @@ SortedSuffice =
     (o : Sorts) (rules : List Rule) → Fit o rules → SortedAreJoinable o rules
     → CasesAreJoinable (args_in is_value) rules
 
--- so rules that lower a weight are confluent where the sorted cases are joinable
+-- rules that lower a weight are confluent where the sorted cases are joinable
 abbrev pub SortedMakeConfluent : Type 0
 SortedMakeConfluent =
     (o : Sorts) (rules : List Rule) (w : Atom → ℕ) → Fit o rules → RulesLower w rules → SortedAreJoinable o rules
     → Confluent rules
 
--- and a sorted case of 64-bit values refutes confluence, where its sides have normal forms that differ
+-- a sorted case of 64-bit values whose sides have normal forms that differ refutes confluence
 abbrev pub FailingSortedRefutes : Type 0
 FailingSortedRefutes =
     (rules : List Rule) (i j : ℕ) (r1 r2 : Rule) → slice_get rules i ≡ Some r1 → slice_get rules j ≡ Some r2

@@ -24,7 +24,7 @@ SortedStepsAreCarried =
     → Each (is_within o d) s → StepBy r v s t
     → StepBy r (λ x. h (sort_of o r x) (v x)) (image (move o h) s) (image (move o h) t)
 
--- and so it carries runs
+-- a sorted map carries runs from a store of values in its sets
 abbrev pub SortedRunsAreCarried : Type 0
 SortedRunsAreCarried =
     (o : Sorts) (h : Map) (d : Sets) (rules : List Rule) (s t : Store) → Fit o rules → IsSortedMap o h d

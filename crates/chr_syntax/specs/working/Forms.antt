@@ -46,7 +46,7 @@ items inside [] = [] ∷ []
 items inside (t ∷ ts) =
     if not inside && is_sign s.Comma t then [] ∷ items false ts else onto_first t (items (stays_inside inside t) ts)
 
--- how many tokens stand before the first such comma
+-- how many tokens stand before the first comma that no parentheses enclose
 abbrev pub item_len : Bool → List Tok → ℕ
 item_len inside [] = 0
 item_len inside (t ∷ ts) = if not inside && is_sign s.Comma t then 0 else 1 + item_len (stays_inside inside t) ts
@@ -58,7 +58,7 @@ each_item f ts = each f (items false ts)
 abbrev pub sign_place : Sign → List Tok → ℕ
 sign_place x ts = position_or_len (is_sign x) ts
 
--- what stands before the first such sign and after it
+-- what stands before the first sign of this kind, and after it
 abbrev pub cut_at : Sign → List Tok → Option (List Tok × List Tok)
 cut_at x ts =
     if sign_place x ts == length ts then None else Some (take (sign_place x ts) ts, drop (sign_place x ts + 1) ts)
@@ -159,7 +159,7 @@ rule_of label heads right = record { label = label; kept = heads.0; removed = he
 abbrev pub simplification_in : Option (List ℕ) → List Tok × List Tok → Option Rule
 simplification_in label p = option_map (λ q. rule_of label q.0 q.1) (both (heads_in p.0) (right_in p.1))
 
--- the same for `==>`: here no backslash may stand
+-- a rule whose sign is `==>`, from what stands before the sign and after it; no backslash may stand there
 abbrev pub propagation_in : Option (List ℕ) → List Tok × List Tok → Option Rule
 propagation_in label p = option_map (λ q. rule_of label ([], q.0) q.1) (both (atoms_from p.0) (right_in p.1))
 

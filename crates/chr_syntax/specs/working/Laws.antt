@@ -9,15 +9,15 @@ use Rattle.chr_syntax.specs.Tokens.{Tok}
 use Rattle.chr_syntax.specs.working.Forms.{form_in, clause_of}
 use Rattle.chr_syntax.specs.working.Tokens.{tokens_of}
 
--- what is read as a form is spelled so
+-- where tokens are read as a form, they spell it
 abbrev pub FormsAreSpelled : Type 0
 FormsAreSpelled = (ts : List Tok) (f : Form) → form_in ts ≡ Some f → ts ≡ spelled f
 
--- what is read is a form
+-- what is read as a form is a form of the grammar
 abbrev pub ReadFormsAreForms : Type 0
 ReadFormsAreForms = (ts : List Tok) (f : Form) → form_in ts ≡ Some f → IsForm f
 
--- what is spelled so is read
+-- the tokens that spell a form are read as it
 abbrev pub SpelledFormsAreRead : Type 0
 SpelledFormsAreRead = (f : Form) → IsForm f → form_in (spelled f) ≡ Some f
 
@@ -42,6 +42,6 @@ abbrev pub WrittenTokensAreRead : Type 0
 WrittenTokensAreRead = (t : Tok) (w rest : List ℕ) → IsLexeme t w → EndsBefore t rest
     → tokens_of (w ++ rest) ≡ option_map (λ ts. t ∷ ts) (tokens_of rest)
 
--- layout before them changes no tokens
+-- layout before tokens changes none of them
 abbrev pub LayoutIsSkipped : Type 0
 LayoutIsSkipped = (layout rest : List ℕ) → AllAre is_layout layout → tokens_of (layout ++ rest) ≡ tokens_of rest

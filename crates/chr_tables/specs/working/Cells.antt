@@ -8,7 +8,7 @@ use Rattle.chr_tables.specs.declared.shape.Shape.{Shape}
 abbrev pub cell_value : List (List ℤ) → ℕ → ℕ → ℤ
 cell_value columns j row = get_or (get_or columns j []) row (pos 0)
 
--- so many arguments of a row, from the one of number j on
+-- n arguments of a row, from the one of number j on
 abbrev pub arguments : List (List ℤ) → ℕ → ℕ → ℕ → List ℤ
 arguments columns row j zero = []
 arguments columns row j (suc n) = cell_value columns j row ∷ arguments columns row (suc j) n
@@ -32,7 +32,7 @@ HoldsValues values = (row : ℕ) → is_value (get_or values row (pos 0)) ≡ tr
 abbrev pub NoneIs : List ℤ → ℤ → ℕ → ℕ → Type 0
 NoneIs values value from to = (row : ℕ) → from ≤ row → row < to → ¬ (get_or values row (pos 0) ≡ value)
 
--- and no atom of such a row has it as its argument in this column
+-- no atom of a row from the one place up to the other has the value as its argument in this column
 abbrev pub NoneHasArgument : List Atom → ℕ → ℤ → ℕ → ℕ → Type 0
 NoneHasArgument atoms column value from to =
     (row : ℕ) (a : Atom) → from ≤ row → row < to → get_or atoms row a ≡ a

@@ -20,7 +20,7 @@ ranged e = record { hash = e.hash; values = e.value ∷ [] }
 abbrev pub crossed : Pair → Found
 crossed p = record { hash = p.hash; values = p.first ∷ p.second ∷ [] }
 
--- the columns by whose values it leaves rows behind
+-- the columns of the order, by whose values it leaves rows out
 abbrev pub order_in : Finder → List ℕ
 order_in (Chained index) = []
 order_in (Ranged column index) = column ∷ []

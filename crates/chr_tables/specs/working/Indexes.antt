@@ -29,7 +29,8 @@ dead_in [] = 0
 dead_in (true ∷ bs) = dead_in bs
 dead_in (false ∷ bs) = suc (dead_in bs)
 
--- under which seed and by which columns an index finds rows, and by the values in which columns it leaves rows behind
+-- the seed and the columns under which an index finds rows, and the columns of its order, by whose values it leaves
+-- rows out
 pub record Way : Type 0 where
   pub seed : ℕ
   pub columns : List ℕ
@@ -39,7 +40,7 @@ pub record Way : Type 0 where
 abbrev pub no_way : Way
 no_way = record { seed = 0; columns = []; order = [] }
 
--- what such an index has of an atom, and of a row, or None where the row is dead
+-- what an index of this way has of an atom, and of a row, or None where the row is dead
 abbrev pub atom_entry : Way → Atom → Found
 atom_entry way a = record { hash = key_hash way.seed (key_of way.columns a); values = key_of way.order a }
 
@@ -49,7 +50,7 @@ entry_in way row = option_map (atom_entry way) row
 abbrev pub way_of : Keyed → Way
 way_of k = record { seed = k.seed; columns = k.columns.items; order = order_in k.index }
 
--- of each index its rows, its way, its columns, its order, and the room that it has
+-- what each index has of its rows
 abbrev pub keyed_entries : List Keyed → List (List (Option Found))
 keyed_entries ks = map (λ k. finder_rows k.index) ks
 

@@ -1,4 +1,5 @@
--- How the search goes: one class after the other, each with the values that a list which begins so must still have.
+-- How the search goes: one class after the other. Each beginning of a list has holes, which are the values that the
+-- list must still have.
 use Rattle.std.specs.Prelude.{◌≡◌, ℕ, suc, zero, ℤ, pos, neg_ℤ, ◌+ℤ◌, ◌-ℤ◌, ◌⊎◌, int_lt, ◌≤ℤ◌, ◌<ℤ◌, ◌^◌, ◌≤◌, Bool}
 use Rattle.std.specs.Prelude.{◌||◌, if◌then◌else◌, List, [], ◌∷◌, ◌++◌, length, map, nat_le, unsigned_abs}
 use Rattle.std.proofs.Math.ListN.{get_or}

@@ -99,14 +99,14 @@ fn is_one(one: &Bag, other: &Bag) -> bool {
     one.is_same(other)
 }
 
-/// An overlap is told so.
+/// The overlap has the expected text.
 fn is_overlap(rt: &impl Abort, alloc: Global, overlap: &Overlap, expected: &str) {
     let mut text = String::new(alloc);
     push_overlap(rt, &mut text, overlap);
     is_text(rt, &text, expected);
 }
 
-/// A derivation is told so, and replays to the end that is told.
+/// The derivation has the expected text, and replays to the end that is told.
 fn is_told(
     rt: &impl Abort,
     alloc: Global,
@@ -224,7 +224,7 @@ fn end(rt: &impl Abort, alloc: Global, weighed: &Weighed, store: &Bag) -> Bag {
     end
 }
 
-/// The end of a store, which is told so.
+/// The end of a store has the expected text.
 fn ends(rt: &impl Abort, alloc: Global, weighed: &Weighed, store: &Bag, expected: &str) -> Bag {
     let end = end(rt, alloc, weighed, store);
     is_text(rt, &told(rt, alloc, weighed, &end), expected);

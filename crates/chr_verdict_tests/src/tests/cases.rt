@@ -111,7 +111,7 @@ fn overlaps_have_cases(rt: HostRuntime) {
     expect_counts(&rt, rt.alloc(), &OVERLAPS);
 }
 
-/// The one constant stands in a body alone.
+/// Its one constant stands in a body only.
 const CONSTANT_OF_A_BODY: &str =
     ":- chr_constraint p/1, q/2, r/0. :- chr_weight p/1 = 3. :- chr_weight q/2 = 2. \
     p(X) <=> q(X,7). p(X) <=> r. q(X,Y) <=> X =< Y | r.";

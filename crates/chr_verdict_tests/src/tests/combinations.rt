@@ -11,7 +11,7 @@ use chr_types::Visit;
 use std::alloc::{AllocError, Global};
 use std::process::Abort;
 
-/// Keeps what is visited, and stops where it has so many.
+/// Keeps what is visited, and stops where it has `wanted` lists.
 #[derive(Drop)]
 struct Kept {
     alloc: Global,

@@ -62,7 +62,7 @@ fn overlaps_between(
     overlaps_of(alloc, weighed, start..end).expect(rt, "memory")
 }
 
-/// Whether each of these is among all, and its first rule is one of the portion's.
+/// Whether each of `some` is among `all`, and its first rule is one of the portion's.
 fn are_of_portion(some: &[Overlap], all: &[Overlap], start: usize, end: usize) -> bool {
     for overlap in some {
         let first = overlap.first as usize;
@@ -102,7 +102,8 @@ fn are_equal(weighed: &Weighed, overlap: &Overlap) -> bool
     }
 }
 
-/// Whether they are equal once the `=:=` of both guards are solved too.
+/// Whether both sides of an overlap are equal as patterns, once matched heads are made one and the `=:=` of both guards
+/// are solved.
 fn are_equal_joined(weighed: &Weighed, overlap: &Overlap) -> bool
     requires { IsOverlapOf (rules_in weighed.now) overlap.now }
 {
@@ -112,8 +113,8 @@ fn are_equal_joined(weighed: &Weighed, overlap: &Overlap) -> bool
     }
 }
 
-/// Whether the sides of each of the first overlaps are equal with heads made one, as is said of it. With guards solved
-/// all are.
+/// Whether the sides of each of the first overlaps are equal, or not, with heads made one, as is expected of it. With
+/// guards solved too, the sides of all are equal.
 fn expect_sides(rt: &impl Abort, alloc: Global, weighed: &Weighed, expected: &[bool]) {
     for (place, matched) in expected.iter().enumerate() {
         let overlap = overlap_at(rt, alloc, weighed, place);

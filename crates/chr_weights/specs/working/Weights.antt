@@ -1,4 +1,4 @@
--- A program lowers in one way.
+-- Any two proofs that a program lowers are equal.
 use Rattle.std.specs.Prelude.{◌⊎◌}
 use Rattle.std.proofs.Common.{arith, inl, inr}
 use Rattle.std.proofs.Math.Bridge.{le_prop}

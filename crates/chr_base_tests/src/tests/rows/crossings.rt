@@ -5,13 +5,18 @@ use chr_indexes::ranges::{Crossing, Range};
 use std::alloc::Global;
 use std::process::Abort;
 
-/// A row as it was pushed, with its number, and whether it lives.
+/// A row as it was pushed.
 #[derive(Clone, Copy)]
 struct Row {
+    // Its number in the index.
     number: u32,
+    // The hash under which it is found.
     hash: u32,
+    // The first of its two values.
     first: i64,
+    // The second of its two values.
     second: i64,
+    // Whether it lives.
     alive: bool,
 }
 
@@ -54,7 +59,7 @@ fn row_of(number: u32) -> Row {
     }
 }
 
-/// So many rows.
+/// The first `count` rows.
 fn rows_of(rt: &impl Abort, alloc: Global, count: u32) -> Vec<Row>
     ensures { length result.items ≡ count }
 {
@@ -92,7 +97,7 @@ fn kill_some(crossing: &mut Crossing, rows: &mut [Row])
     }
 }
 
-/// What a look-up meets from the newest row down is what the scan gives.
+/// A walk by look-ups, from the newest row down, meets the rows that the scan gives.
 fn compare_down(rt: &impl Abort, crossing: &mut Crossing, rows: &[Row], wanted: &Wanted)
     ensures { crossing.new ≡ crossing.old }
 {
@@ -106,7 +111,7 @@ fn compare_down(rt: &impl Abort, crossing: &mut Crossing, rows: &[Row], wanted: 
     assert!(rt; expected == None, "by {wanted:?}");
 }
 
-/// So is what it meets at each row or below it.
+/// From each row on, a look-up at or below it meets the row that the scan gives.
 fn compare_from(rt: &impl Abort, crossing: &mut Crossing, rows: &[Row], wanted: &Wanted)
     ensures { crossing.new ≡ crossing.old }
 {
@@ -127,7 +132,7 @@ fn range_by(number: u32, value: i64) -> Range {
     }
 }
 
-/// Both comparisons by each pair of kinds of ranges.
+/// Makes both comparisons by each pair of kinds of ranges.
 fn compare_all(rt: &impl Abort, crossing: &mut Crossing, rows: &[Row], hash: u32)
     ensures { crossing.new ≡ crossing.old }
 {

@@ -69,7 +69,7 @@ fn first_one(rt: &impl Abort, column: &[i64]) -> Option<usize> {
 
 const MOST_ROWS: usize = 65;
 
-/// The least row with 1, where the last of so many rows alone has it.
+/// The least row with 1 of `rows` rows, of which only the last has it.
 fn first_of_last(rt: &impl Abort, rows: usize) -> Option<usize> {
     assert!(rt; 0 < rows && rows <= MOST_ROWS);
     let mut values = [0; MOST_ROWS];
@@ -77,7 +77,7 @@ fn first_of_last(rt: &impl Abort, rows: usize) -> Option<usize> {
     first_one(rt, &values[..rows])
 }
 
-/// Numbers of rows, most of which are no multiple of eight, and the last row.
+/// Numbers of rows, most of which are no multiple of eight, with the last row of each.
 const LAST: [(usize, usize); 6] = [(1, 0), (7, 6), (8, 7), (9, 8), (64, 63), (65, 64)];
 
 fn expect_last(rt: &impl Abort, rows: &[(usize, usize)]) {

@@ -25,7 +25,7 @@ fn first(index: &mut Index, hash: u32, range: Range) -> Option<u32>
     index.first(hash, &range)
 }
 
-/// The next row after that.
+/// The newest row of the hash in the range `next` below the newest in `range`.
 fn second(rt: &impl Abort, index: &mut Index, hash: u32, range: Range, next: Range) -> Option<u32> {
     let row = index.first(hash, &range).expect(rt, "a row");
     index.next(hash, &next, row)

@@ -89,7 +89,8 @@ fn expect_spans(rt: &impl Abort, rows: &[Row]) {
     }
 }
 
-/// Where no value is below or above, the one at the end stays, and the rule decides.
+/// Signs with the ends that they leave. Where no value is below or above, the value at the end stays, and the rule
+/// decides.
 const SIGNS: [Row; 7] = [
     (Cmp::Less, 7, None, Some(6)),
     (Cmp::AtMost, 7, None, Some(7)),
@@ -223,7 +224,7 @@ fn orders_come_before_inequalities(rt: HostRuntime) {
 const WITHIN: &str =
     ":- chr_constraint range/2, at/1. range(L, H) \\ at(X) <=> L =< X, X < H | true.";
 
-/// It leaves one row at rest.
+/// Its rule leaves one row at rest.
 const LEAST: &str = ":- chr_constraint min/1. min(X) \\ min(Y) <=> X =< Y | true.";
 
 /// A limit of the first column by an argument of a head.

@@ -43,7 +43,7 @@ fn compactions(rt: &impl Abort, alloc: Global) -> usize {
     times
 }
 
-/// So it never has many rows.
+/// A table is compacted so often that it never has many rows.
 #[test]
 fn a_table_stays_small_where_rows_die(rt: HostRuntime) {
     let times = compactions(&rt, rt.alloc());

@@ -2,7 +2,7 @@
 
 use chr_tables::hash::{FIXED_SEED, key_hash};
 
-/// In how many of 256 slots the numbers below 256 lie under a seed, times this factor.
+/// In how many of 256 slots the multiples of `factor` by the numbers below 256 lie under a seed.
 fn slots_of_multiples(seed: u64, factor: i64) -> usize {
     let mut is_taken = [false; 256];
     for i in 0..256i64 {
@@ -11,7 +11,8 @@ fn slots_of_multiples(seed: u64, factor: i64) -> usize {
     is_taken.iter().filter(|taken| **taken).count()
 }
 
-/// Drawn at random, 256 numbers take 162 slots. A node's number in the high bits of an id is such a factor.
+/// Of 256 slots, 256 numbers that are drawn at random take 162. The factor of a node's number in the high bits of an id
+/// is one of those here.
 #[test]
 fn multiples_spread_over_the_slots(rt: HostRuntime) {
     for shift in 0..8u32 {
@@ -21,8 +22,8 @@ fn multiples_spread_over_the_slots(rt: HostRuntime) {
     }
 }
 
-/// Keys that meet under one seed are apart under another: of 256 numbers whose hashes end in one byte under the fixed
-/// one, as many slots are taken as of numbers that are drawn at random.
+/// Keys whose hashes end in one byte under the fixed seed are spread under another seed: 256 of them take as many slots
+/// as 256 numbers that are drawn at random.
 #[test]
 fn keys_chosen_for_one_seed_spread_under_another(rt: HostRuntime) {
     let mut is_taken = [false; 256];

@@ -11,7 +11,7 @@ use std::process::Abort;
 /// The column by whose order the indexes go.
 const ORDER: usize = 1;
 
-/// Any seed does.
+/// A seed, as good as any.
 const SEED: u64 = 1;
 
 /// A row of a table: its atom has these two arguments.
@@ -23,7 +23,7 @@ struct Entry {
 }
 
 impl Entry {
-    /// Whether it lives, has this key, where one is given, and a value in the range.
+    /// Whether the row lives, has this key, where one is given, and a value in the range.
     fn is_wanted(&self, key: &[i64], range: Range) -> bool {
         let has_key = match key.first() {
             Some(key) => self.key == *key,
@@ -97,7 +97,7 @@ fn live_entry(number: usize) -> Entry {
     }
 }
 
-/// Adds live rows, until there are so many.
+/// Adds live rows, until there are `count`.
 fn grow(rt: &impl Abort, table: &mut Table, entries: &mut Vec<Entry>, count: usize)
     requires { length table.old.keys ≡ 2 }
     ensures { length table.new.keys ≡ 2 }
@@ -125,7 +125,7 @@ fn kill_some(table: &mut Table, entries: &mut [Entry])
 /// The keys that are looked up, by the first index and by the second, which has no key.
 const KEYS: [(usize, &[i64]); 4] = [(0, &[0]), (0, &[1]), (0, &[2]), (1, &[])];
 
-/// What a look-up meets from the newest row down is what the scan gives.
+/// A walk by look-ups, from the newest row down, meets the rows that the scan gives.
 fn compare(
     rt: &impl Abort,
     table: &mut Table,
@@ -149,7 +149,7 @@ fn compare(
     assert!(rt; wanted.is_none());
 }
 
-/// The same by each key and by none.
+/// Makes the comparison by each key and by none.
 fn compare_keys(rt: &impl Abort, table: &mut Table, entries: &[Entry], range: Range)
     requires { length table.old.keys ≡ 2 }
     ensures { length table.new.keys ≡ 2 }
@@ -159,7 +159,7 @@ fn compare_keys(rt: &impl Abort, table: &mut Table, entries: &[Entry], range: Ra
     }
 }
 
-/// Ends of ranges, none among them.
+/// Ends of ranges, and none.
 const ENDS: [Option<i64>; 9] = [
     None,
     Some(i64::MIN),
@@ -172,7 +172,7 @@ const ENDS: [Option<i64>; 9] = [
     Some(i64::MAX),
 ];
 
-/// The same for all pairs of ends, those without a value between them too.
+/// Makes the comparison for all pairs of ends, also for those without a value between them.
 fn compare_all(rt: &impl Abort, table: &mut Table, entries: &[Entry])
     requires { length table.old.keys ≡ 2 }
     ensures { length table.new.keys ≡ 2 }

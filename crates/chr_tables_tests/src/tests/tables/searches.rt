@@ -65,7 +65,7 @@ fn prepared(alloc: Global, rule: &Rule, place: usize, atoms: &[Atom]) -> Result<
     Ok(Setting { tables, lookups })
 }
 
-/// The same, where there is memory.
+/// Like [`prepared`], where there is memory.
 fn set_up(rt: &impl Abort, alloc: Global, rule: &Rule, place: usize, atoms: &[Atom]) -> Setting
     requires place { place < length (heads_of rule.now) }
     ensures plan { IsPlan rule.now place (partners_of result.lookups.items) }
