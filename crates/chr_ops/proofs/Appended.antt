@@ -162,7 +162,7 @@ module _ (id : OpId) where
           }
       by later false e is = absurd (omega (arith, is))
 
-  -- and where it is not
+  -- where an id is not at its place, it is not there at all
   pub place_none : (os : List Operation) (i : ℕ) → Rise os → i ≡ place os
       → ((d : Operation) → i < length os → is_eq (id_cmp id (slice_index_or os i d).0) ≡ false) → bag_under os id ≡ None
   place_none [] i rise is apart = refl
@@ -199,7 +199,7 @@ module _ (id : OpId) where
           (all_on id o.0 os (before_is_less id o.0 e) (sorted_head id_cmp o.0 (keys_of os) rise))
       by false e = refl
 
-  -- none of those that it comes before has it
+  -- none of the entries that an id comes before has that id
   pub below_none : (os : List Operation) → below_all id_cmp id os ≡ true → bag_under os id ≡ None
   below_none [] h = refl
   below_none (o ∷ os) h = by (below_none os) (id_cmp id o.0) h
@@ -216,7 +216,7 @@ module _ (id : OpId) where
   back_all P [] fs h = h
   back_all P (e ∷ es) fs h = back_all P es fs h.1
 
-  -- and if it does not come before those behind, none of those in front has it
+  -- where entries in order are parted, and an id does not come before all behind, none of those in front has it
   pub front_none : (es fs : List Operation) → Rise (es ++ fs) → below_all id_cmp id fs ≡ false → bag_under es id ≡ None
   front_none [] fs rise h = refl
   front_none (e ∷ es) fs rise h = by (front_none es fs (sorted_tail id_cmp e.0 (keys_of (es ++ fs)) rise) h) (test e.0)
@@ -244,7 +244,7 @@ module _ (id : OpId) where
       by later true g = absurd (none_is e.1 g)
       by later false g = later g
 
-  -- what is taken out of them
+  -- what is taken out of entries under an id, where it is not there
   pub removed_none : (os : List Operation) → bag_under os id ≡ None → remove_entry test os ≡ os
   removed_none [] h = refl
   removed_none (o ∷ os) h = by (removed_none os) (test o.0) h
@@ -302,7 +302,7 @@ module _ (id : OpId) where
         ≡ by_order r ((id, bag) ∷ o ∷ os) ((o.0, bag) ∷ os) (o ∷ put id_cmp id bag os))
         [ Less ↦ refl | Equal ↦ refl | Greater ↦ ap (λ xs. o ∷ xs) (as_put os) ]
 
-    -- what is put in among them
+    -- entries stay in order where an id is put in among them
     pub rise_put : (os : List Operation) → Rise os → Rise (put_in os)
     rise_put os rise = subst Rise (sym (as_put os))
         (ids_sorted (put id_cmp id bag os) (is_sorted-put id_cmp id_total id bag os (sorted_from os rise)))
@@ -369,7 +369,7 @@ module _ (id : OpId) where
   up_to_all k [] h g = tt
   up_to_all k (o ∷ os) h g = (up_to_before k o.0 h.0 g, up_to_all k os h.1 g)
 
-  -- all do if one does that comes before none of them
+  -- all entries come before an id if one does that comes before none of them
   pub all_up_to : (k : OpId) (es fs : List Operation) → All (λ q. is_lt (id_cmp k q) ≡ false) (keys_of es)
       → is_lt (id_cmp k id) ≡ true → ¬ (0 < length fs) → AllBefore (es ++ fs) id
   all_up_to k es [] h g l = subst (λ os. AllBefore os id) (sym (append-nil es))
@@ -385,7 +385,7 @@ module _ (id : OpId) where
   over_first e [] l h g = absurd (omega (arith, l))
   over_first e (o ∷ os) l h g = less_on e.0 o.0 id h.0 g.0
 
-  -- or if the last ones do
+  -- all entries come before an id if the last ones do
   pub before_too : (es fs : List Operation) → Rise (es ++ fs) → 0 < length fs → AllBefore fs id
       → AllBefore (es ++ fs) id
   before_too [] fs rise l h = h
@@ -489,7 +489,7 @@ pub got_back : (id : OpId) (es fs : List Operation) → Rise (es ++ fs) → belo
     → bag_under fs id ≡ map.get (operations_of (es ++ fs)) id
 got_back id es fs rise h = sym (get_value (es ++ fs) id ∙ found_back id es fs (front_none id es fs rise h))
 
--- and the operations of a range there
+-- the operations of a range in a map of two lists are those in the first and those in the last
 pub within_both : (r : IdRange) → r.lo ≤ r.hi → (es fs : List Operation) → Rise (es ++ fs) → within r es
     ++ slice_range fs (count_while (is_before (first_id r)) fs) (count_while (is_up_to (last_id r)) fs)
     ≡ within r (map.entries (operations_of (es ++ fs)))

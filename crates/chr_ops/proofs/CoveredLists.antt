@@ -135,7 +135,7 @@ copied_more os all es ranges i there apart sorted found =
     append_assoc os (within r es) (covered rs es) ∙ ap (λ xs. os ++ xs) (sym (covered_first r rs es parted.1 sorted))
     ∙ ap (λ xs. os ++ covered xs es) (sym (drop_more ranges i blank there)) ∙ found
 
--- and at the end they are there
+-- after the last range the operations so far are all of them
 pub copied_all : (os all es : List Operation) (ranges : List IdRange) (i : ℕ) → length ranges ≤ i
     → os ++ covered (drop i ranges) es ≡ all → os ≡ all
 copied_all os all es ranges i over found =

@@ -44,7 +44,7 @@ one_inserted es fs k v h = map.same_map id_total id_exact _ _ (λ q.
     get_value fs q ∙ h q ∙ ap (λ b. cond b (Some v) (value_at es q)) ((eq_by_cmp_equiv id_total).symm k q)
     ∙ sym (map.get-insert id_total (map_of es) k v q ∙ ap (cond (eq_by_cmp id_cmp q k) (Some v)) (get_value es q)))
 
--- and where one of them has nothing there
+-- entries of which one list has nothing at an id make sets of which one has nothing there
 pub one_removed : {X : Type 0} (es fs : List (OpId × X)) (k : OpId)
     → ((q : OpId) → value_at fs q ≡ cond (is_at (id_cmp k) q) None (value_at es q)) → map_of fs
     ≡ map.remove (map_of es) k

@@ -112,7 +112,7 @@ module _ (m : Operations) (ops : List Operation) (i : ℕ) (o : Operation) (ther
       ap (λ os. map.contains_key (union m os) q) next ∙ known_push m (take i ops) o q
       ∙ ap (λ b. b || eq_by_cmp id_cmp q o.0) (h q) ∙ sym (g q)
 
-  -- what is new by then
+  -- the sum of the new operations, after one more
   sum_more : (known : Bool) (atoms : List Atom) → store_of atoms ≡ sum_of (fresh m (take i ops))
       → map.contains_key (union m (take i ops)) o.0 ≡ known → sum_of (fresh m (take (i + 1) ops))
       ≡ store_of atoms ⊕ added known o.1

@@ -18,6 +18,6 @@ id_exact a b h =
     (exact_pairs nat_cmp nat_cmp nat_cmp-IsAntisymmetric nat_cmp-IsAntisymmetric (a.origin, a.number)
     (b.origin, b.number) h)
 
--- ids that are found the same are one
+-- two ids of which a look-up finds one by the other are equal
 pub same_id : (a b : OpId) → eq_by_cmp id_cmp a b ≡ true → a ≡ b
 same_id a b h = id_exact a b ((Equal-is (id_cmp a b)).0 h)

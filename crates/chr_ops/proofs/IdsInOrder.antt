@@ -32,14 +32,14 @@ rise_by_pairs (o ∷ p ∷ os) h =
     let rest : Rise (p ∷ os) = rise_by_pairs (p ∷ os) (λ k d l. h (suc k) d (omega (arith, l))) in
     ((first, all_on o.0 p.0 os first (sorted_head id_cmp p.0 (keys_of os) rest)), rest)
 
--- they are in order if each two neighbours are
+-- operations are in order if each two neighbours are
 pub rise_by_neighbours : (os : List Operation) → ((k : ℕ) (d : Operation) → k + 1 < length os
     → id_cmp (get_or os k d).0 (get_or os (k + 1) d).0 ≡ Less) → Rise os
 rise_by_neighbours os h = rise_by_pairs os (λ k d l.
     let next : suc k ≡ k + 1 = omega arith in
     ap (λ n. id_cmp (get_or os k d).0 (get_or os n d).0) next ∙ h k d (omega (arith, l)))
 
--- and of two in order the later has the greater id
+-- of two operations in order the later has the greater id
 pub later_greater : (os : List Operation) (j k : ℕ) (d : Operation) → Rise os → j < k → k < length os
     → id_cmp (get_or os j d).0 (get_or os k d).0 ≡ Less
 later_greater [] j k d rise l g = absurd (omega (arith, g))
@@ -49,7 +49,7 @@ later_greater (o ∷ os) zero (suc k) d rise l g =
 later_greater (o ∷ os) (suc j) (suc k) d rise l g =
     later_greater os j k d (sorted_tail id_cmp o.0 (keys_of os) rise) (omega (arith, l)) (omega (arith, g))
 
--- two neighbours of which the second is no greater
+-- operations two of which fall are not in order
 pub none_falls : (os : List Operation) (j k : ℕ) (a b : Operation) → j < k → k < length os → a ≡ get_or os j a
     → b ≡ get_or os k b → is_le (id_cmp b.0 a.0) ≡ true → ¬ (Rise os)
 none_falls os j k a b l g at after h rise =
@@ -77,7 +77,7 @@ pub not_held : (x : Option Store) → is_some x ≡ false → x ≡ None
 not_held None e = refl
 not_held (Some s) e = absurd (false≢true (sym e))
 
--- so what is held under the id of one was held before those that come before it
+-- in operations in order, what is held under the id of one was held before those that come before it
 pub held_before : (m : Operations) (os : List Operation) (i : ℕ) (o : Operation) → Rise os → i < length os
     → o ≡ get_or os i o → map.get (union m (take i os)) o.0 ≡ map.get m o.0
 held_before m os i o rise l is =

@@ -43,7 +43,7 @@ sized_inserted m k v sized h q s g = by (eq_by_cmp id_cmp q k) (sym (map.get-ins
     by true e = subst IsOperationBag (ap (λ o. unwrap_or o v) e) sized
     by false e = h q s e
 
--- one that it does not hold joins it, where there is room
+-- an operation that a set does not hold joins it, where there is room
 pub kept_insert : (told : ℕ) (rs ss : List IdRange) (m : Operations) (k : OpId) (v : Store) → IsKept told rs m
     → map.get m k ≡ None → IsOperationBag v → told + size v ≤ MAX_TOLD
     → IsApart ss → ((q : OpId) → covers ss q ≡ (covers rs q || is_one_of (k ∷ []) q))

@@ -35,7 +35,7 @@ pub apart_push : (rs : List IdRange) (x : IdRange) → IsApart rs → AllByRecur
 apart_push [] x h b l = (l, tt, tt)
 apart_push (r ∷ rs) x h b l = (h.0, all_push (IsBefore r) rs x h.1 b.0, apart_push rs x h.2 b.1 l)
 
--- without the last
+-- ranges that are apart stay so without the last
 apart_front : (rs : List IdRange) (x : IdRange) → IsApart (rs ++ x ∷ []) → IsApart rs
     × AllByRecursion (λ r. IsBefore r x) rs × (x.lo ≤ x.hi)
 apart_front [] x h = (tt, tt, h.0)

@@ -11,12 +11,12 @@ use Rattle.chr_ops.specs.Joins.{union, fresh, AreNew}
 use Rattle.chr_ops.proofs.IdsInOrder.{not_held}
 use Rattle.chr_ops.proofs.Unions.{union_none, union_more, union_new, told_store-union}
 
--- the first of them, and then the others
+-- a union with a list is that with its first operation, and then with the others
 pub union_first : (m : Operations) (o : Operation) (os : List Operation) → IsNew m o
     → union m (o ∷ os) ≡ union (map.insert m o.0 o.1) os
 union_first m o os new = sym (union_more m (o ∷ []) os) ∙ ap (λ n. union n os) (union_new m o new)
 
--- they are what is new among them, and all that they tell comes to what is told
+-- where all operations of a list are new, they are what is new among them, and all that they tell comes to what is told
 fresh_all : (m : Operations) (os : List Operation) → AreNew m os → fresh m os ≡ os
 fresh_all m [] all = refl
 fresh_all m (o ∷ os) all =
@@ -41,13 +41,13 @@ new_within m (p ∷ os) o ps all = subst (λ n. IsNew n o) (sym (union_first m p
 
 module _ (m : Operations) (ops : List Operation) (i : ℕ) (o : Operation) (there : i < length ops)
     (is : o ≡ get_or ops i o) where
-  -- one more is new
+  -- where one more operation is new, all so far are
   pub new_more : AreNew m (take i ops) → map.contains_key (union m (take i ops)) o.0 ≡ false
       → AreNew m (take (i + 1) ops)
   new_more all unknown = subst (AreNew m) (sym (take_more ops i o there ∙ ap (λ y. take i ops ++ y ∷ []) (sym is)))
       (new_pushed m (take i ops) o all (not_held (map.get (union m (take i ops)) o.0) unknown))
 
-  -- one isn't
+  -- where one operation is not new, not all are
   pub not_new : map.contains_key (union m (take i ops)) o.0 ≡ true → ¬ (AreNew m ops)
   not_new known all =
       let parts : take i ops ++ o ∷ drop (i + 1) ops ≡ ops = ap (λ y. take i ops ++ y ∷ drop (i + 1) ops) is

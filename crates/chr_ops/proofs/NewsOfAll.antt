@@ -42,7 +42,7 @@ union_there m os q =
 pub union_gains : (m : Operations) (os : List Operation) → GainsOnly m (union m os) (ids_of os)
 union_gains m os q h = sym (union_there m os q) ∙ h
 
--- and all of the set
+-- a union holds all of the set
 pub union_holds : (m : Operations) (os : List Operation) → HoldsAll (union m os) m
 union_holds m os q h = union_there m os q ∙ ap (λ b. b || is_one_of (ids_of os) q) h
 
@@ -128,7 +128,7 @@ gained_all v w giver ids ms m k gives others there grows holds right a b s t at_
         subst (IsTrueOf w a b s) (sym e.2) (taker_gains w a b s m k holds (subst (IsTrueOf w a b s) e.1 h))
     by_taker y (inr e) h = subst (IsTrueOf w a b s) (sym e.1) h
 
--- and where it is noted that a taker holds all that a giver does
+-- news stay true of all where it is noted that a taker holds all that a giver does
 pub met_all : (v w : News) (giver taker : ℕ) (ms : List Operations) (m n : Operations)
     → ((m n : Operations) → HoldsAll n m → IsTrueOf v giver taker m n → IsTrueOf w giver taker m n)
     → ((b : ℕ) (m n : Operations) → b ≢ taker → IsTrueOf v giver b m n → IsTrueOf w giver b m n)

@@ -40,7 +40,7 @@ module _ (m : Ends) (id : OpId) (d : AreAsLongAsPossible m) (new : covers (end_r
   own_disjoint : id.number < 2 ^ 64 → AreDisjoint own
   own_disjoint fit = laid_disjoint m (id ∷ []) own d all_new (own_laid fit)
 
-  -- it becomes the last of the range that ends right before it
+  -- the id becomes the last of the range that ends right before it
   module _ (k : OpId) (h : ℕ) (at : map.get m k ≡ Some h) (same : k.origin ≡ id.origin)
       (touch : h + 1 ≡ id.number) where
     k_not_id : k ≡ id → ⊥
@@ -80,7 +80,7 @@ module _ (m : Ends) (id : OpId) (d : AreAsLongAsPossible m) (new : covers (end_r
           (touching_joined own k id h id.number (own_disjoint fit) at_own own_there same touch);
     }
 
-  -- or a range of its own, where none does
+  -- the id is a range of its own, where none ends right before it
   none_before : ((k : OpId) → ¬ (EndsRightBefore m id k)) → (k : OpId) → ¬ (EndsRightBefore own id k)
   none_before none k (h, at, org, touch) = by (eq_by_cmp id_cmp k id) refl
     where
@@ -100,7 +100,7 @@ module _ (m : Ends) (id : OpId) (d : AreAsLongAsPossible m) (new : covers (end_r
     joined = none_ends own id (own_disjoint fit) (none_before none);
   }
 
-  -- ranges are as long as possible again, and cover it too
+  -- ranges are as long as possible again, and cover the id too
   abbrev pub IsCoveredBy : Ends → Type 0
   IsCoveredBy o = AreAsLongAsPossible o
       × ((q : OpId) → covers (end_ranges o) q ≡ (covers (end_ranges m) q || is_one_of (id ∷ []) q))
@@ -113,14 +113,14 @@ module _ (m : Ends) (id : OpId) (d : AreAsLongAsPossible m) (new : covers (end_r
         joined_covers m (id ∷ []) put.laid d all_new put.is o joined,
       )
 
-  -- where it is then joined to the range that begins right behind it
+  -- the id's range is then joined to the one that begins right behind it
   pub covered_before : (n o : Ends) → IsPutIn m id n → AreJoined n (λ q. eq_by_cmp id_cmp q (next_id id)) o
       → IsCoveredBy o
   covered_before n o put next =
       covered_after n o put
       (joined_twice put.laid n o (λ q. eq_by_cmp id_cmp q id) (λ q. eq_by_cmp id_cmp q (next_id id)) put.joined next)
 
-  -- where no number comes behind it
+  -- no number comes behind the id's
   pub covered_last : (n : Ends) → IsPutIn m id n → id.number + 1 ≡ 2 ^ 64 → IsCoveredBy n
   covered_last n put last =
       covered_after n n put

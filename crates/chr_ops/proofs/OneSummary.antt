@@ -55,7 +55,7 @@ next_id r = record { origin = r.origin; number = r.hi + 1 }
 first_covered : (r : IdRange) (rs : List IdRange) → IsApart (r ∷ rs) → covers (r ∷ rs) (first_id r) ≡ true
 first_covered r rs apart = ap (λ b. b || covers rs (first_id r)) (in_from r (first_id r) refl (omega arith) apart.0)
 
--- the one behind the first range is not
+-- the id right behind the first range is not covered
 next_not : (r : IdRange) (rs : List IdRange) → IsApart (r ∷ rs) → covers (r ∷ rs) (next_id r) ≡ true → ⊥
 next_not r rs apart h = by (in_range r (next_id r)) refl h
   where
@@ -63,7 +63,8 @@ next_not r rs apart h = by (in_range r (next_id r)) refl h
     by true e g = (let l = in_high r (next_id r) e in omega (arith, l))
     by false e g = (let b = (behind r rs (next_id r) apart.1 g).number refl in omega (arith, b))
 
--- the first range ends no earlier than the other's first
+-- of two lists that cover the same and begin at one id, the first range of the one ends no earlier than that of the
+-- other
 ends : (r s : IdRange) (rs ss : List IdRange) → IsApart (r ∷ rs) → IsApart (s ∷ ss)
     → ((id : OpId) → covers (r ∷ rs) id ≡ covers (s ∷ ss) id) → r.origin ≡ s.origin → r.lo ≡ s.lo → s.hi ≤ r.hi
 ends r s rs ss apart apart' same o l = by (nat_le s.hi r.hi) refl
@@ -86,7 +87,7 @@ not_later r rs id all h = by (covers rs id) refl
     by true e = absurd (let b = (behind r rs id all e).number (in_origin r id h) in let l = in_high r id h in
         omega (arith, b, l))
 
--- what the later ones cover is the same
+-- where the first range is the same, what the later ones cover is the same
 later_same : (r : IdRange) (rs ss : List IdRange) → IsApart (r ∷ rs) → IsApart (r ∷ ss)
     → ((id : OpId) → covers (r ∷ rs) id ≡ covers (r ∷ ss) id) → (id : OpId) → covers rs id ≡ covers ss id
 later_same r rs ss apart apart' same id = by (in_range r id) refl (same id)

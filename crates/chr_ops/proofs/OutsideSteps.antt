@@ -76,7 +76,7 @@ next_behind parts r o os next far =
 abbrev has_before : IdRange → IdRange → OpId → Bool
 has_before r o id = in_range r id && nat_lt id.number o.lo
 
--- what adding that part comes to
+-- what adding the part of a range before another begins comes to
 record AddsPart (parts : List IdRange) (r o : IdRange) (new : List IdRange) : Type 0 where
   apart : IsApart new
   covering : (id : OpId) → covers new id ≡ (covers parts id || has_before r o id)
@@ -199,7 +199,7 @@ module _ (parts : List IdRange) (r o : IdRange) (os : List IdRange) (next : IsNe
   misses : (id : OpId) → in_range r id ≡ true → nat_lt id.number o.lo ≡ true → covers os id ≡ false
   misses id = first_misses r o os id same next.others_apart.0 next.others_apart.1
 
-  -- where the other one ends no earlier than the range, that part is all
+  -- where the other range ends no earlier than the range, the part before the other is all that is left of it
   pub next_past : r.hi ≤ o.hi → AddsOutside parts r (o ∷ os) (parts ++ part_before r o)
   next_past past = record {
     apart = added.apart;
@@ -209,7 +209,7 @@ module _ (parts : List IdRange) (r o : IdRange) (os : List IdRange) (next : IsNe
     in_order = added.in_order;
   }
 
-  -- else what is left of the range is next
+  -- where the other range ends earlier, what is left of the range is next
   pub next_left : o.hi < r.hi → IsNext (parts ++ part_before r o) (left_behind r o) os
   next_left less = record {
     holds = omega (arith, less);

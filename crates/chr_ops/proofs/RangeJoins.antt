@@ -220,7 +220,7 @@ none_begins m id d none = record {
   seams = λ q s. (s, differs q id (λ e. true≢false (sym (subst IsSome (ap (map.get m) e ∙ none) s.2))));
 }
 
--- nor where none ends right before it
+-- where no range ends right before an id, there is nothing to join
 pub none_ends : (m : Ends) (id : OpId) → AreDisjoint m → ((k : OpId) → ¬ (EndsRightBefore m id k))
     → AreJoined m (λ q. eq_by_cmp id_cmp q id) m
 none_ends m id d none = record {
@@ -233,7 +233,7 @@ neither : (a b : Bool) → a ≡ false → b ≡ false → (a || b) ≡ false
 neither true b p r = p
 neither false b p r = r
 
--- one joining after another
+-- two joinings, one after the other, are one
 pub joined_twice : (m n o : Ends) (p r : OpId → Bool) → AreJoined m p n → AreJoined n r o
     → AreJoined m (λ q. p q || r q) o
 joined_twice m n o p r h g = record {
@@ -243,7 +243,7 @@ joined_twice m n o p r h g = record {
       (sooner.0, neither (p q) (r q) sooner.1 later.1));
 }
 
--- by a test that agrees where there is a seam
+-- ranges that are joined by one test are joined by another that agrees where there is a seam
 pub joined_for : (m n : Ends) (p r : OpId → Bool) → ((q : OpId) → IsSeam m q → p q ≡ false → r q ≡ false)
     → AreJoined m p n → AreJoined m r n
 joined_for m n p r same h = record {

@@ -158,7 +158,7 @@ not_before m id k h d at below last apart j (x, at_j, org, touch) =
     let last_one : x ≡ h = ap (λ u. unwrap_or u x) (sym at_j ∙ ap (map.get m) one ∙ at) in
     apart (sym same ∙ org) (omega (arith, last_one, touch)))) (cases_lt j.number k.number)
 
--- and where there is none below it
+-- where no range begins below an id, none ends right before it
 pub none_below : (m : Ends) (id : OpId) → AreDisjoint m → ((q : OpId) → id_cmp q id ≡ order.Less → map.get m q ≡ None)
     → (j : OpId) → ¬ (EndsRightBefore m id j)
 none_below m id d none j (x, at_j, org, touch) =

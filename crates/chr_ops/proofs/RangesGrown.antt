@@ -23,7 +23,7 @@ cond_twice : (b : Bool) (x y z : Option ℕ) → cond b x (cond b y z) ≡ cond 
 cond_twice true x y z = refl
 cond_twice false x y z = refl
 
--- no range begins behind its end and up to its new end
+-- no range begins behind the end of the one that grows and up to its new end
 module _ (m : Ends) (d : AreAsLongAsPossible m) (run : IdRange) (k : OpId) (h e : ℕ) (at_k : map.get m k ≡ Some h)
     (along : k.origin ≡ run.origin) (low : run.lo ≤ h) (more : h ≤ e) (high : e ≤ run.hi) (fit : e < 2 ^ 64)
     (none : (q : OpId) → k.origin ≡ q.origin → h < q.number → q.number ≤ e → map.get m q ≡ None) where
@@ -62,7 +62,7 @@ module _ (m : Ends) (d : AreAsLongAsPossible m) (run : IdRange) (k : OpId) (h e 
       (omega (arith, n, last, k_low, more), omega (arith, last, fit)))) (λ o. d.disjoint.fits q x o.at)
       (is_either q x g)
 
-  -- an other range that begins behind it begins behind its new end
+  -- another range that begins behind the one that grows begins behind its new end
   behind : (l : OpId) (y : ℕ) → IsOther l y → k.origin ≡ l.origin → k.number < l.number → e < l.number
   behind l y o org less =
       let past = d.disjoint.apart k l h y at_k o.at org less in
@@ -145,7 +145,7 @@ module _ (m : Ends) (d : AreAsLongAsPossible m) (run : IdRange) (k : OpId) (h e 
     pub next : e + 1 ≡ q.number
     pub there : IsSome (map.get m q)
 
-  -- a seam is right behind its new end
+  -- a seam is right behind the new end of the range
   seam_behind : (q : OpId) → IsSeam grown q → IsBehind q
   seam_behind q (j, (x, at_j, org, touch), there) = ⊎_elim (λ f. (
       let same : j.origin ≡ k.origin = ap (λ a. a.origin) f.0 in
@@ -153,7 +153,7 @@ module _ (m : Ends) (d : AreAsLongAsPossible m) (run : IdRange) (k : OpId) (h e 
       record { same = sym same ∙ org; next = omega (arith, last, touch); there = begins q there }))
       (λ o. absurd (d.closed q (j, (x, o.at, org, touch), begins q there))) (is_either j x at_j)
 
-  -- where no range begins there, it is as long as possible
+  -- where no range begins right behind the new end, the range is as long as possible
   pub reached : ((q : OpId) → k.origin ≡ q.origin → e + 1 ≡ q.number → map.get m q ≡ None)
       → GainsWithin m run (map.insert m k e)
   unfolding grown
@@ -166,7 +166,7 @@ module _ (m : Ends) (d : AreAsLongAsPossible m) (run : IdRange) (k : OpId) (h e 
     within = λ q g. old_or_run q (covers_has grown q g);
   }
 
-  -- where one does, it is joined to it
+  -- where a range begins right behind the new end, the two are joined
   module _ (id : OpId) (g : ℕ) (at_id : map.get m id ≡ Some g) (org : k.origin ≡ id.origin)
       (touch : e + 1 ≡ id.number) where
     id_stays : map.get grown id ≡ Some g
@@ -244,12 +244,12 @@ module _ (m : Ends) (k : OpId) (h : ℕ) where
         by None f = refl
         by (Some x) f = absurd (true≢false (sym g ∙ first q (not_below k q h o l) (ap is_some f)))
 
-    -- none begins before the first one there
+    -- no range begins between a last number and the first one behind it
     pub none_before : k.origin ≡ id.origin → (q : OpId) → k.origin ≡ q.origin → h < q.number → q.number < id.number
         → map.get m q ≡ None
     none_before same q o l less = before_first q o l (above q id (sym o ∙ same) less)
 
-    -- none begins up to a number that the first one there is past
+    -- no range begins up to a number that the first range behind is past
     pub none_up_to : is_gt (id_cmp (id_behind k h) id) ≡ false → (e : ℕ) → (k.origin ≡ id.origin → e < id.number)
         → (q : OpId) → k.origin ≡ q.origin → h < q.number → q.number ≤ e → map.get m q ≡ None
     none_up_to past e far q o l less = ⊎_elim

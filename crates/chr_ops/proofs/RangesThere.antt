@@ -40,11 +40,11 @@ last_of (r ∷ rs) = inr (by (last_of rs))
     by (inl none) = ([], r, ap (λ x. r ∷ x) none)
     by (inr some) = (r ∷ some.0, some.1, ap (λ x. r ∷ x) some.2)
 
--- what is left when it is merged with them
+-- ranges and the next one can be merged
 abbrev HasMerged : List IdRange → IdRange → Type 0
 HasMerged old next = (new : List IdRange) × IsMerged old next new
 
--- it begins within the last one, or right behind it
+-- a range begins within the last one, or right behind it
 abbrev Touches : IdRange → IdRange → Type 0
 Touches last next = (last.origin ≡ next.origin) × (next.lo ≤ last.hi + 1)
 
@@ -102,7 +102,7 @@ found_more true here e x = refl
 found_more false true e x = refl
 found_more false false e x = refl
 
--- ranges that cover what these do, and the ids of entries in order
+-- there are ranges that are apart, and cover what these do and the ids of entries in order
 abbrev HasRanges : List Operation → List IdRange → Type 0
 HasRanges es old = (new : List IdRange) × IsApart new × ((q : OpId) → covers new q
     ≡ (covers old q || is_some (find id_cmp q es)))

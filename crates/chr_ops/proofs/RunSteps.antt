@@ -15,7 +15,7 @@ aside true b c = refl
 aside false true c = sym (or-true c)
 aside false false c = sym (or-false c)
 
--- where one of the ranges has one more id, so have they all
+-- where one of the ranges gets an id, the ranges cover it
 pub one_gains : (rs : List IdRange) (i : ℕ) (d r : IdRange) (q : OpId) (b : Bool) → i < length rs
     → in_range r q ≡ (in_range (get_or rs i d) q || b) → covers (slice_set rs i r) q ≡ (covers rs q || b)
 one_gains [] i d r q b there h = absurd (omega (arith, there))
@@ -24,7 +24,7 @@ one_gains (s ∷ rs) (suc i) d r q b there h =
     ap (λ x. in_range s q || x) (one_gains rs i d r q b (omega (arith, there)) h)
     ∙ sym (or_assoc (in_range s q) (covers rs q) b)
 
--- a range that ends right before an id may have it too
+-- a range that ends right before an id gets it as its last
 pub one_further : (r : IdRange) (id q : OpId) → r.lo ≤ r.hi → r.origin ≡ id.origin → r.hi + 1 ≡ id.number
     → in_range record { origin = r.origin; lo = r.lo; hi = id.number } q ≡ (in_range r q || eq_by_cmp id_cmp q id)
 one_further r id q range same next = grind (arith, nat_tests)

@@ -25,7 +25,7 @@ use Rattle.chr_ops.proofs.RangesLaid.{laid_disjoint, laid_more, lifted}
 use Rattle.chr_ops.proofs.Unions.{without_removed}
 use Rattle.chr_ops.proofs.RangeLookups.{has_covers, in_origin, in_low, in_high, in_from, same_bool}
 
--- what is gained along a run: nothing yet, and then step by step
+-- along a run nothing is gained yet; after it, two gains along a run are one
 pub gains_none : (m : Ends) (run : IdRange) → AreAsLongAsPossible m → GainsWithin m run m
 gains_none m run d = record { longest = d; stays = λ q h. h; within = λ q h. ap (λ b. b || in_range run q) h }
 
@@ -67,7 +67,7 @@ first_among (r ∷ runs) (suc i) d there =
     ap (λ b. eq_by_cmp id_cmp k (first_id r) || b) (first_among runs i d (omega (arith, there)))
     ∙ or-true (eq_by_cmp id_cmp k (first_id r))
 
--- and is in its run, where that has an id
+-- a run's first id is in the run, where that has an id
 firsts_covered : (runs : List IdRange) → All (λ r. r.lo ≤ r.hi) runs → (q : OpId)
     → is_one_of (first_ids runs) q ≡ true → covers runs q ≡ true
 firsts_covered [] ranges q h = absurd (true≢false (sym h))
@@ -119,7 +119,7 @@ module _ (runs : List IdRange) (i : ℕ) (d : IdRange) (k : OpId) (is : k ≡ fi
       joined_more before now after (first_ids runs) i (first_id d) (place_among runs i there) h
       (subst (λ x. AreJoined now (λ q. is_beside q x) after) (is ∙ sym (first_id_at runs i d)) g)
 
--- and at the end they are all
+-- after the last run the first ids are all of them
 pub firsts_all : (runs : List IdRange) (i : ℕ) → length runs ≤ i → take i (first_ids runs) ≡ first_ids runs
 firsts_all runs i over = take_all i (first_ids runs) (rw (length-map runs first_id) over)
 
@@ -136,7 +136,7 @@ module _ (m : Ends) (ids : List OpId) (runs : List IdRange) (d : AreAsLongAsPoss
   firsts_new : (q : OpId) → is_one_of (first_ids runs) q ≡ true → covers (end_ranges m) q ≡ false
   firsts_new q h = new q (sym (same q) ∙ firsts_covered runs ranges q h)
 
-  -- their first ids are taken out again
+  -- the first ids of the runs are taken out again
   pub firsts_lifted : (n o : Ends) → IsSameBut m (first_ids runs) n → IsWithout o (first_ids runs) n → o ≡ m
   firsts_lifted n o but without =
       lifted m n o (first_ids runs) (fresh_begin m (first_ids runs) d.disjoint firsts_new) but without
@@ -145,7 +145,7 @@ module _ (m : Ends) (ids : List OpId) (runs : List IdRange) (d : AreAsLongAsPoss
     pub firsts_disjoint : AreDisjoint n
     firsts_disjoint = laid_disjoint m (first_ids runs) n d firsts_new laid
 
-    -- or their ranges are joined, and reach along the runs
+    -- the ranges of the first ids are joined, and reach along the runs
     module _ (o : Ends) (joined : AreJoined n (λ q. list_any (is_beside q) (first_ids runs)) o) where
       pub firsts_longest : AreAsLongAsPossible o
       firsts_longest = joined_longest m (first_ids runs) n d firsts_new laid o joined

@@ -40,7 +40,7 @@ told_store-insert m k v h =
     ap sum_of (map.entries-insert id_total m k v) ∙ sum_of-put k v (map.entries m) (sym (map.get-entries m k) ∙ h)
     ∙ plus_comm v (told_store m)
 
--- a set of none tells nothing
+-- a set of no operations tells nothing
 pub told_store-empty : told_store map.empty ≡ bag.empty
 told_store-empty = none (map.entries map.empty) (sym (map.len-entries map.empty) ∙ map.len-empty id_cmp Store)
   where

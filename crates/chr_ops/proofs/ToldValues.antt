@@ -23,7 +23,7 @@ told_has_values m h = sum_has_values (map.entries m) (each_entry IsOperationBag 
 
 -- ---- unions
 
--- each operation of a list has
+-- the atoms of each operation of a list have 64-bit values
 abbrev pub HaveValues : List Operation → Type 0
 HaveValues os = AllByRecursion (λ o. HasValues o.1) os
 
@@ -37,7 +37,7 @@ values_of_sum : (os : List Operation) → HasValues (sum_of os) → HaveValues o
 values_of_sum [] h = tt
 values_of_sum (o ∷ os) h = (first_values o.1 (sum_of os) h, values_of_sum os (rest_values o.1 (sum_of os) h))
 
--- each entry of a set has where what it tells has
+-- the atoms of each entry of a set have 64-bit values, where those have that the set tells
 pub entries_have_values : (m : Operations) → HasValues (told_store m) → HaveValues (map.entries m)
 entries_have_values m h = values_of_sum (map.entries m) h
 

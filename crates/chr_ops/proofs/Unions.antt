@@ -62,7 +62,7 @@ union_held m o s h = map.same_map id_total id_exact _ _
     by q true e = let there : map.get m q ≡ Some s = ap (map.get m) (same_id q o.0 e) ∙ h in
         ap (λ x. option_or x (Some o.1)) there ∙ sym there
 
--- a new one joins it
+-- a new operation joins the set
 pub union_new : (m : Operations) (o : Operation) → map.get m o.0 ≡ None → union m (o ∷ []) ≡ map.insert m o.0 o.1
 union_new m o h = map.same_map id_total id_exact _ _ (λ q. get-union m (o ∷ []) q ∙ by q (eq_by_cmp id_cmp q o.0) refl
     ∙ sym (map.get-insert id_total m o.0 o.1 q))
@@ -91,12 +91,12 @@ without_pushed m n r ids k new others h q =
     (λ e. ap (map.get n) (same_id q k e) ∙ new) (others q)
     ∙ ap (λ b. cond b None (map.get r q)) (sym (list_any-append (eq_by_cmp id_cmp q) ids (k ∷ [])))
 
--- an id that is not there may go into the list
+-- an id that is not in a map may go into the list of those that it is without
 pub without_more : {X : Type 0} (m n : map.FinMap id_cmp X) (ids : List OpId) (k : OpId) → map.get n k ≡ None
     → IsWithout m ids n → IsWithout m (ids ++ k ∷ []) n
 without_more m n ids k new h = without_pushed m n n ids k new (λ _ _. refl) h
 
--- and its operation then joins the set
+-- the operation of an id that went into the list may join the set
 pub without_inserted : {X : Type 0} (m n : map.FinMap id_cmp X) (ids : List OpId) (k : OpId) (v : X) → map.get n k
     ≡ None → IsWithout m ids n → IsWithout m (ids ++ k ∷ []) (map.insert n k v)
 without_inserted m n ids k v new h =
@@ -128,7 +128,7 @@ ids_inserted m n ids k v h q =
     (ap is_some (map.get-insert id_total n k v q) ∙ some_there (eq_by_cmp id_cmp q k) v (map.get n q))
     ∙ ap (λ b. map.contains_key m q || b) (sym (list_any-append (eq_by_cmp id_cmp q) ids (k ∷ [])))
 
--- of none but its own, where no more are given
+-- a set has no ids but its own
 pub ids_none : (m : Operations) → AddsIds m [] m
 ids_none m q = sym (or-false (map.contains_key m q))
 
@@ -147,7 +147,7 @@ all_gone : {X : Type 0} (a b : Bool) (x : Option X) → cond a None (cond b None
 all_gone true b x = refl
 all_gone false b x = refl
 
--- one before the last ids of a list is taken out after them
+-- an id before the last ones of a list is taken out after them
 pub without_earlier : {X : Type 0} (before now next : map.FinMap id_cmp X) (ids : List OpId) (i : ℕ) (d : OpId)
     → 0 < i → i ≤ length ids → IsWithout now (drop i ids) before → next ≡ map.remove now (get_or ids (i - 1) d)
     → IsWithout next (drop (i - 1) ids) before
@@ -161,7 +161,7 @@ without_earlier before now next ids i d some inside h taken q =
     (sym one)
     ∙ ap (λ xs. cond (list_any (eq_by_cmp id_cmp q) xs) None (map.get before q)) (sym (drop_more ids (i - 1) d there))
 
--- what is without the ids that came is what was there
+-- what a map is without the ids that came is what was there
 pub had_back : {X : Type 0} (m n r : map.FinMap id_cmp X) (ids : List OpId) → IsWithout m ids n → IsWithout r ids n
     → r ≡ m
 had_back m n r ids h g = map.same_map id_total id_exact _ _ (λ q. g q ∙ sym (h q))

@@ -43,7 +43,7 @@ later_not_ended r s id h range before holds =
     ⊎_elim (λ e. (let far = before.1 e in grind (arith, nat_tests, h, range, e, far, holds)))
     (λ ne. (let far = before.0 in grind (arith, nat_tests, h, range, ne, far, holds))) (cases_eq r.origin s.origin)
 
--- behind a range that has not ended none has
+-- behind a range that has not ended, none has ended
 pub none_ended : (r : IdRange) (rs : List IdRange) (id : OpId) → ends_before r id ≡ false → r.lo ≤ r.hi
     → AllByRecursion (IsBefore r) rs → IsApart rs → AllByRecursion (λ s. ends_before s id ≡ false) rs
 none_ended r [] id h range before apart = tt

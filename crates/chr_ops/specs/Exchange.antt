@@ -14,16 +14,16 @@ use Rattle.chr_ops.specs.Summaries.{CoversJust, lacking}
 abbrev pub HaveOneBag : Operations → Operations → Type 0
 HaveOneBag m n = (id : OpId) (s t : Store) → map.get m id ≡ Some s → map.get n id ≡ Some t → s ≡ t
 
--- what is lacked is what one set holds and the other does not
+-- what a set n holds beyond a summary of a set m is what n holds and m does not
 abbrev pub LackedLaw : Type 0
 LackedLaw = (m n : Operations) (summary : List IdRange) → CoversJust summary m
     → (id : OpId) → find id_cmp id (lacking n summary) ≡ (if map.contains_key m id then None else map.get n id)
 
--- none of it stands for another bag there
+-- none of what a set m lacks of n has an id that stands for another bag in m
 abbrev pub NoClashLaw : Type 0
 NoClashLaw = (m n : Operations) (summary : List IdRange) → CoversJust summary m → HasNoClash m (lacking n summary)
 
--- joined to the other set, it makes the union of both
+-- a set m with what it lacks of n is the union of both
 abbrev pub ExchangeLaw : Type 0
 ExchangeLaw = (m n : Operations) (summary : List IdRange) → CoversJust summary m
     → union m (lacking n summary) ≡ union m (map.entries n)

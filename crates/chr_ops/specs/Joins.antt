@@ -24,7 +24,7 @@ abbrev pub ClashesAt : Operations → List Operation → ℕ → OpId → Type 0
 ClashesAt m os i id =
     (o : Operation) × (slice_get os i ≡ Some o) × (id ≡ o.0) × IsHeldOtherwise (union m (take i os)) o
 
--- it is the id of the first operation that clashes
+-- this is the id of the first operation of the list that clashes
 abbrev pub IsFirstClash : Operations → List Operation → OpId → Type 0
 IsFirstClash m os id =
     (i : ℕ) × ClashesAt m os i id × ((j : ℕ) (other : OpId) → j < i → ¬ (ClashesAt m os j other))

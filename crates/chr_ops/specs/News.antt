@@ -37,18 +37,19 @@ GainsOnly m k ids = (q : OpId) → map.contains_key k q ≡ true → (map.contai
 abbrev pub HoldsAll : Operations → Operations → Type 0
 HoldsAll n m = (q : OpId) → map.contains_key m q ≡ true → map.contains_key n q ≡ true
 
--- what is kept of a giver that holds m is true of a taker that holds n: it lacks only what came since it last took all
+-- what is kept of a giver that holds m is true of a taker that holds n: the taker lacks only what came since it last
+-- took all
 abbrev pub AreTrueOf : Gains → ℕ → Operations → Operations → Type 0
 AreTrueOf g taker m n =
     (mark : ℕ) → lookup (is_at (nat_cmp taker)) g.met.entries ≡ Some mark
     → (mark ≤ length g.ids.items) × LacksOnly m n (drop mark g.ids.items)
 
--- so it is with what is kept of a giver of this number
+-- what is kept of the giver of this number, which holds m, is true of the taker of that number, which holds n
 abbrev pub IsTrueOf : News → ℕ → ℕ → Operations → Operations → Type 0
 IsTrueOf w giver taker m n =
     (g : Gains) → lookup (is_at (nat_cmp giver)) w.givers.entries ≡ Some g → AreTrueOf g taker m n
 
--- and of each two sets of a list, which have their places as numbers
+-- what is kept is true of each two sets of a list, which have their places as numbers
 abbrev pub IsTrueOfAll : News → List Operations → Type 0
 IsTrueOfAll w ms =
     (a b : ℕ) (m n : Operations) → slice_get ms a ≡ Some m → slice_get ms b ≡ Some n → IsTrueOf w a b m n

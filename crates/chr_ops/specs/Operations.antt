@@ -22,15 +22,15 @@ Operations = map.FinMap id_cmp Store
 abbrev pub operations_of : List Operation → Operations
 operations_of os = map.from_entries os
 
--- it has at least one atom, and no more than an operation may have
+-- the bag has at least one atom, and no more than an operation may have
 abbrev pub HasOperationSize : Store → Type 0
 HasOperationSize s = (1 ≤ size s) × (size s ≤ MAX_OPERATION)
 
--- it is the bag of an operation: it has such a size, and its arguments are 64-bit values
+-- it is the bag of an operation: it has the size of one, and its arguments are 64-bit values
 abbrev pub IsOperationBag : Store → Type 0
 IsOperationBag s = HasOperationSize s × HasValues s
 
--- all their atoms together
+-- the sum of the bags of operations
 abbrev pub sum_of : List Operation → Store
 sum_of [] = bag.empty
 sum_of (o ∷ os) = o.1 ⊕ sum_of os
@@ -39,18 +39,18 @@ sum_of (o ∷ os) = o.1 ⊕ sum_of os
 abbrev pub told_store : Operations → Store
 told_store m = sum_of (map.entries m)
 
--- the number of its told atoms
+-- the number of atoms that a set tells
 abbrev pub told_atoms : Operations → ℕ
 told_atoms m = size (told_store m)
 
--- the set has nothing for its id
+-- the set has no operation with the id of this one
 abbrev pub IsNew : Operations → Operation → Type 0
 IsNew m o = map.get m o.0 ≡ None
 
--- it is in the set
+-- the operation is in the set
 abbrev pub IsHeld : Operations → Operation → Type 0
 IsHeld m o = map.get m o.0 ≡ Some o.1
 
--- its id stands for another bag in the set
+-- the operation's id stands for another bag in the set
 abbrev pub IsHeldOtherwise : Operations → Operation → Type 0
 IsHeldOtherwise m o = IsSomeAnd (map.get m o.0) (λ b. b ≢ o.1)

@@ -10,7 +10,7 @@ use Rattle.chr_ops.specs.Operations.{Operation, Operations}
 abbrev pub in_range : IdRange → OpId → Bool
 in_range r id = r.origin == id.origin && nat_le r.lo id.number && nat_le id.number r.hi
 
--- whether one of the ranges has it
+-- whether one of the ranges has an id
 abbrev pub covers : List IdRange → OpId → Bool
 covers rs id = list_any (λ r. in_range r id) rs
 
@@ -36,7 +36,7 @@ abbrev pub ApartIsOne : Type 0
 ApartIsOne =
     (rs ss : List IdRange) → IsApart rs → IsApart ss → ((id : OpId) → covers rs id ≡ covers ss id) → rs ≡ ss
 
--- so the summary of a set, as it is written, is one
+-- a set has one summary: two lists of ranges that are apart and cover just its ids are one
 abbrev pub SummariesAreOne : Type 0
 SummariesAreOne =
     (m : Operations) (rs ss : List IdRange) → IsApart rs → IsApart ss → CoversJust rs m → CoversJust ss m → rs ≡ ss

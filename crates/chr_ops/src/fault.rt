@@ -8,9 +8,9 @@ use thiserror::Error;
 /// Whether an operation was held before it was added.
 #[derive(Clone, Copy, Debug, PartialEq, Eq)]
 pub enum Added {
-    /// It was not.
+    /// The operation was not held before, and is now.
     New,
-    /// It was, and nothing has changed.
+    /// The operation was held before, and nothing has changed.
     Again,
 }
 

@@ -47,8 +47,8 @@ fn noted_atoms(alloc: Global, held: &Entries, ops: &[Op]) -> Result<Vec<Atom>, A
     Ok(atoms)
 }
 
-/// The same of a set whose ids are covered, where the operations come in the order of their ids, so that no note is
-/// needed.
+/// Copies of the atoms of those of these operations that are new to a set, each operation once, by the ranges that
+/// cover the set's ids. No note is needed, since the operations come in the order of their ids.
 fn uncovered_atoms(alloc: Global, covered: &Covered, ops: &[Op]) -> Result<Vec<Atom>, AllocError>
     requires { Rise ops.now }
     ensures { IfOk result (λ atoms. (m : Operations) → CoversJust covered.now m
@@ -94,7 +94,8 @@ fn are_new_by_notes(alloc: Global, held: &Entries, ops: &[Op]) -> Result<bool, A
     Ok(true)
 }
 
-/// The same of a set whose ids are covered, where the operations come in the order of their ids.
+/// Whether each of these operations is new to a set and those before it, by the ranges that cover the set's ids. The
+/// operations come in the order of their ids, so that no two have one id.
 fn are_uncovered(covered: &Covered, ops: &[Op]) -> bool
     requires { Rise ops.now }
     ensures new { (m : Operations) → CoversJust covered.now m → OnTrue result (AreNew m ops.now) }

@@ -9,7 +9,7 @@ use crate::op::Op;
 use std::alloc::{AllocError, Global};
 use std::collections::BTreeMap;
 
-/// The most ids that are kept of one giver. Where more come it is forgotten what its takers hold.
+/// The most ids that are kept of one giver. Where more come, the giver's takers are forgotten.
 const MOST_KEPT: usize = 4_096;
 
 /// The ids that a giver gained, and how many of them there were when a taker last held all that the giver did.
@@ -54,8 +54,8 @@ impl Gains {
         self.ids.get(mark..)
     }
 
-    /// Keeps the ids of operations that are gained. Where there are too many, or memory is refused, it forgets the
-    /// takers.
+    /// Keeps the ids of operations that are gained. Where there are more than [`MOST_KEPT`], or memory is refused, it
+    /// forgets the takers.
     fn gain(&mut self, ops: &[Op])
         ensures { GainsOrForgets self.old (ids_of ops.now) self.new }
     {
@@ -66,7 +66,8 @@ impl Gains {
         }
     }
 
-    /// Keeps the id of one operation that is gained, likewise.
+    /// Keeps the id of one operation that is gained. Where there are more than [`MOST_KEPT`], or memory is refused, it
+    /// forgets the takers.
     fn gain_one(&mut self, id: OpId)
         ensures { GainsOrForgets self.old (id ∷ []) self.new }
     {
@@ -76,7 +77,7 @@ impl Gains {
         }
     }
 
-    /// A taker holds all that the giver does. Where memory is refused nothing changes.
+    /// Notes that a taker holds all that the giver does. Where memory is refused nothing changes.
     fn meet(&mut self, taker: usize)
         ensures { Meets self.old taker self.new }
     {
@@ -86,7 +87,7 @@ impl Gains {
 }
 
 impl News {
-    /// Nothing is known.
+    /// No news: of no giver is anything known.
     pub fn new(alloc: Global) -> Self
         ensures { (a b : ℕ) (m n : Operations) → IsTrueOf result a b m n }
     {
@@ -95,7 +96,8 @@ impl News {
         }
     }
 
-    /// Ids that a giver gained, beyond which a taker lacks nothing of it, where that is known. It takes no memory.
+    /// Ids that a giver gained, among which is each that the giver holds and the taker lacks; nothing where they are
+    /// not known. It takes no memory.
     pub fn since(&self, giver: usize, taker: usize) -> Option<&[OpId]>
         ensures { IfSome result (λ ids. (m n : Operations) → IsTrueOf self.now giver taker m n
             → LacksOnly m n ids.now) }
@@ -103,7 +105,7 @@ impl News {
         self.givers.get(&giver)?.since(taker)
     }
 
-    /// A giver gains operations, as far as it does not hold them.
+    /// Notes that a giver gains those of these operations that it does not hold.
     pub fn gained(&mut self, giver: usize, ops: &[Op])
         ensures giver { (b : ℕ) (m n k : Operations) → IsTrueOf self.old giver b m n → GainsOnly m k (ids_of ops.now)
             → IsTrueOf self.new giver b k n }
@@ -115,7 +117,7 @@ impl News {
         }
     }
 
-    /// A giver gains the operation of an id, as far as it does not hold it.
+    /// Notes that a giver gains the operation of an id, if it does not hold it.
     pub fn gained_one(&mut self, giver: usize, id: OpId)
         ensures giver { (b : ℕ) (m n k : Operations) → IsTrueOf self.old giver b m n → GainsOnly m k (id ∷ [])
             → IsTrueOf self.new giver b k n }
@@ -127,7 +129,7 @@ impl News {
         }
     }
 
-    /// A taker holds all that a giver does. Where memory is refused that is not kept.
+    /// Notes that a taker holds all that a giver does. Where memory is refused that is not kept.
     pub fn met(&mut self, alloc: Global, giver: usize, taker: usize)
         ensures met { (m n : Operations) → HoldsAll n m → IsTrueOf self.old giver taker m n
             → IsTrueOf self.new giver taker m n }
@@ -146,7 +148,7 @@ impl News {
         }
     }
 
-    /// Nothing is known any more.
+    /// Forgets all, so that nothing is known of any giver.
     pub fn forget(&mut self)
         ensures { (a b : ℕ) (m n : Operations) → IsTrueOf self.new a b m n }
     {

@@ -28,7 +28,7 @@ impl OpBag {
         }
     }
 
-    /// An equal one. What is shared is shared with it too.
+    /// An equal bag. One that is shared gets one more owner, and is not copied.
     fn copy(&self, alloc: Global) -> Result<OpBag, AllocError>
         ensures { IfOk result (λ copy. bag_of copy ≡ bag_of self.now) }
     {
@@ -48,7 +48,7 @@ impl OpBag {
         }
     }
 
-    /// The bag, to be shared. Where memory is refused, it is handed back.
+    /// The bag, to be shared. Where memory is refused, the bag is handed back.
     fn into_shared(self, alloc: Global) -> Result<SharedBag, OpBag>
         ensures ok { IfOk result (λ shared. shared ≡ bag_of self) }
         ensures handed_back { IfErr result (λ back. bag_of back ≡ bag_of self) }
@@ -108,14 +108,14 @@ impl Op {
         }
     }
 
-    /// What tells it apart.
+    /// The id, which tells the operation apart from others.
     pub fn id(&self) -> OpId
         ensures { result ≡ self.now.0 }
     {
         self.id
     }
 
-    /// What it tells.
+    /// The atoms that it tells.
     pub fn bag(&self) -> &Bag
         ensures bag { result.now ≡ self.now.1 }
         ensures sized { IsOperationBag self.now.1 }

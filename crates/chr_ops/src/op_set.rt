@@ -74,8 +74,8 @@ impl OpSet {
         self.told
     }
 
-    /// The arguments of the told atoms are values of 64 bits, as those of each operation are. It does nothing but look
-    /// into the set, for its contract.
+    /// The arguments of the told atoms are values of 64 bits, as those of each operation are. The call computes
+    /// nothing: its contract says so of the set.
     pub fn told_has_values(&self)
         ensures { HasValues (told_store self.now) }
     {
@@ -206,9 +206,9 @@ impl OpSet {
         lacked(alloc, &self.held, &ranges, summary.ranges())
     }
 
-    /// Copies of the operations whose ids are among these and which another set lacks, in the order of ids. Where it
-    /// lacks no others, that is what `lacks` gives by a summary of just its ids. It costs look-ups for these ids, and
-    /// what is copied, however many ranges are held.
+    /// Copies of the operations whose ids are among `ids` and which another set lacks, in the order of ids. Where the
+    /// other set lacks no more than these, the result is that of [`OpSet::lacks`] with the other's summary. It costs
+    /// look-ups for these ids, and what is copied, however many ranges are held.
     pub fn lacked_among(
         &self,
         alloc: Global,
@@ -238,7 +238,8 @@ impl OpSet {
         Bag::of(self.fresh_list(alloc, ops)?)
     }
 
-    /// The same atoms in the order of the list, which takes no sort.
+    /// The atoms of those of a list's operations that are new to the set, each operation once, in the order of the
+    /// list. Unlike [`OpSet::fresh_atoms`] it sorts nothing.
     pub fn fresh_list(&self, alloc: Global, ops: &[Op]) -> Result<Vec<Atom>, AllocError>
         ensures { IfOk result (λ atoms. store_of atoms.items ≡ sum_of (fresh self.now ops.now)) }
     {

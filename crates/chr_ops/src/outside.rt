@@ -65,8 +65,8 @@ fn push_outside(
     Ok(())
 }
 
-/// The ids that ranges have and others leave out, as ranges that are as long as possible. There are at most as many as
-/// of both together.
+/// The ids that ranges have and others leave out, as ranges that are as long as possible. They are at most as many as
+/// the ranges and the others together.
 pub(crate) fn ranges_outside(
     alloc: Global,
     ranges: &[IdRange],

@@ -14,14 +14,14 @@ pub struct IdRange {
 }
 
 impl IdRange {
-    /// Whether it has an id.
+    /// Whether the range has an id.
     pub fn has(&self, id: OpId) -> bool
         ensures { result ≡ in_range self.now id }
     {
         self.origin == id.origin && self.lo <= id.number && id.number <= self.hi
     }
 
-    /// The id that it begins with.
+    /// The first id of the range.
     pub(crate) fn first(&self) -> OpId
         ensures { result ≡ first_id self.now }
     {
@@ -31,7 +31,7 @@ impl IdRange {
         }
     }
 
-    /// The id that it ends with.
+    /// The last id of the range.
     pub(crate) fn last(&self) -> OpId
         ensures { result ≡ last_id self.now }
     {
@@ -41,28 +41,28 @@ impl IdRange {
         }
     }
 
-    /// Whether it begins no later than another one of its origin ends.
+    /// Whether the range begins no later than another one of its origin ends.
     pub(crate) fn begins_by_end_of(&self, other: &IdRange) -> bool
         ensures { IsTrue result ↔ ((self.now.origin ≡ other.now.origin) × (self.now.lo ≤ other.now.hi)) }
     {
         self.origin == other.origin && self.lo <= other.hi
     }
 
-    /// Whether it ends before an id.
+    /// Whether the range ends before an id.
     pub(crate) fn ends_before(&self, id: OpId) -> bool
         ensures { result ≡ ends_before self.now id }
     {
         self.origin < id.origin || (self.origin == id.origin && self.hi < id.number)
     }
 
-    /// Whether it ends right before an id.
+    /// Whether the range ends right before an id.
     pub(crate) fn ends_right_before(&self, id: OpId) -> bool
         ensures { IsTrue result ↔ ((self.now.origin ≡ id.origin) × (self.now.hi + 1 ≡ id.number)) }
     {
         self.origin == id.origin && self.hi < id.number && id.number - self.hi == 1
     }
 
-    /// Whether the other begins in this one or right behind it.
+    /// Whether `next`, of the same origin, begins within this range or right behind it, or earlier.
     pub(crate) fn reaches(&self, next: &IdRange) -> bool
         ensures { IsTrue result ↔ ((self.now.origin ≡ next.now.origin) × (next.now.lo ≤ self.now.hi + 1)) }
     {

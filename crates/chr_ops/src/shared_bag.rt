@@ -34,14 +34,14 @@ impl SharedBag {
         Ok(SharedBag { bag })
     }
 
-    /// What is shared.
+    /// The bag that is shared.
     pub(crate) fn bag(&self) -> &Bag
         ensures { result.now ≡ self.now }
     {
         &self.bag
     }
 
-    /// One more owner.
+    /// The bag with one more owner.
     pub(crate) fn share(&self) -> Result<SharedBag, AllocError>
         ensures { IfOk result (λ shared. shared ≡ self.now) }
     {

@@ -41,7 +41,7 @@ pub record AreAsLongAsPossible (m : Ends) : Type 0 where
   pub disjoint : AreDisjoint m
   pub closed : (q : OpId) → ¬ (IsSeam m q)
 
--- the ids that ranges begin with
+-- the first ids of ranges
 abbrev pub first_ids : List IdRange → List OpId
 first_ids rs = each first_id rs
 
@@ -58,7 +58,7 @@ IsSameBut m ids n = (q : OpId) → is_one_of ids q ≡ false → map.get n q ≡
 abbrev pub next_id : OpId → OpId
 next_id id = record { origin = id.origin; number = id.number + 1 }
 
--- whether a range that begins at an id may touch one that has another: as its first or right behind it
+-- whether q is an id or the one after it: where a range that has the id alone may touch others, it does so at these
 abbrev pub is_beside : OpId → OpId → Bool
 is_beside q id = eq_by_cmp id_cmp q id || eq_by_cmp id_cmp q (next_id id)
 

@@ -14,7 +14,7 @@ use Rattle.chr_ops.specs.Ids.{id_cmp}
 use Rattle.chr_ops.specs.declared.op.OpBag.TheVariants as kind
 use Rattle.chr_ops.specs.Operations.{Operation}
 
--- its own, or the one that it shares
+-- the bag of an operation, whether it is its own or shared
 abbrev pub bag_of : OpBag → Store
 bag_of (kind.Own b) = b
 bag_of (kind.Shared b) = b
@@ -27,7 +27,7 @@ operation_entry p = (p.0, p.1.now)
 abbrev pub Rise : List Operation → Type 0
 Rise os = IsStrictlySortedBy id_cmp (keys_of os)
 
--- each of them comes before an id
+-- each entry of a list comes before an id
 abbrev pub AllBefore : List Operation → OpId → Type 0
 AllBefore os id = AllByRecursion (λ o. id_cmp o.0 id ≡ Less) os
 
@@ -35,7 +35,7 @@ AllBefore os id = AllByRecursion (λ o. id_cmp o.0 id ≡ Less) os
 abbrev pub bag_under : List Operation → OpId → Option Store
 bag_under os id = lookup (is_at (id_cmp id)) os
 
--- whether an id comes before another, or no later
+-- whether the second id comes before the first; after it, whether it comes no later than the first
 abbrev pub is_before : OpId → OpId → Bool
 is_before id k = is_lt (id_cmp k id)
 

@@ -8,7 +8,7 @@ use Rattle.chr_ops.specs.declared.range.IdRange.{IdRange}
 use Rattle.chr_ops.specs.Operations.{Operations, IsOperationBag, told_atoms}
 use Rattle.chr_ops.specs.Summaries.{CoversJust, IsApart}
 
--- each bag is an operation's
+-- each bag of a set is one that an operation may have
 abbrev pub AreOperationBags : Operations → Type 0
 AreOperationBags m = (q : OpId) (s : Store) → map.get m q ≡ Some s → IsOperationBag s
 

@@ -11,7 +11,7 @@ use Rattle.chr_ops.specs.Summaries.{in_range, covers, IsApart}
 abbrev pub StartsBy : IdRange → IdRange → Type 0
 StartsBy r s = (r.origin ≤ s.origin) × (r.origin ≡ s.origin → r.lo ≤ s.lo)
 
--- each of a list does
+-- each range of a list begins no later than a range
 abbrev pub AllStartBy : List IdRange → IdRange → Type 0
 AllStartBy rs s = AllByRecursion (λ r. StartsBy r s) rs
 
@@ -22,7 +22,7 @@ pub record IsMerged (old : List IdRange) (next : IdRange) (new : List IdRange) :
   pub covering : (id : OpId) → covers new id ≡ (covers old id || in_range next id)
   pub in_order : (later : IdRange) → StartsBy next later → AllStartBy old later → AllStartBy new later
 
--- by origin, beginning and end
+-- ranges are ordered by origin, then by beginning, and then by end
 abbrev pub range_cmp : IdRange → IdRange → Ordering
 range_cmp r s =
     ordering_then (nat_cmp r.origin s.origin) (ordering_then (nat_cmp r.lo s.lo) (nat_cmp r.hi s.hi))

@@ -6,11 +6,11 @@ use Rattle.chr_ops.specs.declared.range.IdRange.{IdRange}
 use Rattle.chr_ops.specs.Operations.{Operation}
 use Rattle.chr_ops.specs.Summaries.{in_range, covers}
 
--- the id that a range begins with
+-- the first id of a range
 abbrev pub first_id : IdRange → OpId
 first_id r = record { origin = r.origin; number = r.lo }
 
--- the id that it ends with
+-- the last id of a range
 abbrev pub last_id : IdRange → OpId
 last_id r = record { origin = r.origin; number = r.hi }
 
@@ -18,7 +18,7 @@ last_id r = record { origin = r.origin; number = r.hi }
 abbrev pub ends_before : IdRange → OpId → Bool
 ends_before r id = nat_lt r.origin id.origin || (r.origin == id.origin && nat_lt r.hi id.number)
 
--- the ranges from the first that does not
+-- the ranges from the first that does not end before an id
 abbrev pub rest_from : List IdRange → OpId → List IdRange
 rest_from [] id = []
 rest_from (r ∷ rs) id = if ends_before r id then rest_from rs id else r ∷ rs

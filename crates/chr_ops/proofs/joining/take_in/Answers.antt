@@ -10,7 +10,7 @@ use Rattle.chr_ops.proofs.joining.take_in.Goals as goal
 pub returns-then-is_same-clause-ok : goal.returns-then-is_same-clause-ok
 returns-then-is_same-clause-ok c = sym (union_held c.args.held.now c.args.op.now c.args.op.now.1 (search rules))
 
--- its id is new
+-- the operation's id is new
 new_id : (c : goal.In_ok-insert) → map.get c.args.held.now c.args.op.now.0 ≡ None
 new_id c = search rules
 
