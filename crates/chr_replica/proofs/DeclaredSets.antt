@@ -26,7 +26,7 @@ use Rattle.chr_replica.specs.Replicas.{IsDeclared, AreDeclared}
 pub none_declared : (p : Program) → AreDeclared p map.empty
 none_declared p id b e = absurd (none-some b (sym (map.get-empty id_cmp id) ∙ e))
 
--- what stands under an id, there or before
+-- what stands under an id after an operation was put in is declared
 pub declared_more : (p : Program) (m : Operations) (op : Operation) → AreDeclared p m → IsDeclared p op
     → AreDeclared p (map.insert m op.0 op.1)
 declared_more p m op old new q b e = by (eq_by_cmp id_cmp q op.0) (sym (map.get-insert id_total m op.0 op.1 q) ∙ e)
@@ -35,7 +35,7 @@ declared_more p m op old new q b e = by (eq_by_cmp id_cmp q op.0) (sym (map.get-
     by true g = subst (Each (declares_atom (declarations p))) (ap (λ o. unwrap_or o op.1) g) new
     by false g = old q b g
 
--- what is found in a list has what all its bags have
+-- what is found in a list has a property that all its bags have
 found_has : (P : Store → Type 0) (q : OpId) (b : Store) (os : List Operation) → AllByRecursion (λ o. P o.1) os
     → find id_cmp q os ≡ Some b → P b
 found_has P q b [] h e = absurd (none-some b e)
@@ -53,7 +53,7 @@ declared_union p m os old new q b e = by (map.get m q) refl (sym (get-union m os
     by (Some c) at g = old q b (at ∙ g)
     by None at g = found_has (Each (declares_atom (declarations p))) q b os (recursion_from_All (IsDeclared p) os new) g
 
--- and what others lack
+-- what a summary does not cover is declared
 pub lacking_declared : (p : Program) (m : Operations) (rs : List IdRange) → AreDeclared p m
     → All (IsDeclared p) (lacking m rs)
 lacking_declared p m rs h =

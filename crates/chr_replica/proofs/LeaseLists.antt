@@ -42,7 +42,7 @@ one_inserted es fs k v h = map.same_map nat_cmp_total nat_cmp-IsAntisymmetric _ 
     ∙ sym (map.get-insert nat_cmp_total (leases_of es) k v q ∙ ap (cond (eq_by_cmp nat_cmp q k) (Some v))
     (get_part es q)))
 
--- and where one of them has nothing there
+-- entries of which one list has nothing at a number make leases of which one has nothing there
 pub one_removed : (es fs : Parts) (k : ℕ) → ((q : ℕ) → part_at fs q ≡ cond (is_at (nat_cmp k) q) None (part_at es q))
     → leases_of fs ≡ map.remove (leases_of es) k
 one_removed es fs k h = map.same_map nat_cmp_total nat_cmp-IsAntisymmetric _ _ (λ q.

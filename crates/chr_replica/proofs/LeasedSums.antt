@@ -55,7 +55,7 @@ nothing_left m k =
     finite.get-remove nat_cmp_total m k k
     ∙ ap (λ b. cond b None (finite.get m k)) ((eq_by_cmp_equiv nat_cmp_total).refl k)
 
--- what is taken out and put in again
+-- a part that is taken out and put in again is there as before
 there_again : (m : Leases) (k : ℕ) (v : Store) → finite.get m k ≡ Some v
     → finite.insert (finite.remove m k) k v ≡ m
 there_again m k v h = finite.same_map nat_cmp_total nat_cmp-IsAntisymmetric _ _ (λ q.
@@ -68,7 +68,7 @@ there_again m k v h = finite.same_map nat_cmp_total nat_cmp-IsAntisymmetric _ _ 
     by q true e = sym (ap (finite.get m) (same_number q k e) ∙ h)
     by q false e = refl
 
--- a part that leaves leaves the sum
+-- a part that is taken out leaves the sum
 pub leased_less : (m : Leases) (k : ℕ) (v : Store) → finite.get m k ≡ Some v
     → leased_store m ≡ leased_store (finite.remove m k) ⊕ v
 leased_less m k v h =

@@ -20,7 +20,7 @@ rank_plus : (p : Program) (s t : Store) → store_rank p (s ⊕ t) ≡ store_ran
 rank_plus p s t =
     sym (store_ranks p (s ⊕ t)) ∙ weight_plus (rank_in p) s t ∙ (λ i. store_ranks p s i + store_ranks p t i)
 
--- it fits 64 bits
+-- the rank of a sound replica's pool fits 64 bits
 pub rank_fits : (p : Program) (s : Replica) → ProgramLowers p → IsSound p s → told_atoms s.operations ≤ MAX_TOLD
     → store_rank p s.pool < 2 ^ 64
 rank_fits p s lowers sound few =

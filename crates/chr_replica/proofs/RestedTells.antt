@@ -29,7 +29,7 @@ use Rattle.chr_replica.proofs.Keeping.{recall_keeps, settle_keeps, take_keeps, t
 use Rattle.chr_replica.proofs.LeasedSums.{taken_before}
 use Rattle.chr_replica.proofs.States.{put_out, replica_is}
 
--- where all are new, they tell what is told and their sum
+-- where all operations of a list are new, the set with them tells what it told and their sum
 told_more : (m : Operations) (os : List Operation) → AreNew m os
     → told_atoms (union m os) ≡ told_atoms m + size (sum_of os)
 told_more m os all = ap size (told_store-new m os all) ∙ size_plus _ (sum_of os)
@@ -64,13 +64,13 @@ reaches_beside p s a b h =
     subst (λ u. Reaches (Step (rules_of p)) (s ⊕ a) u) (plus_comm b s)
     (subst (λ u. Reaches (Step (rules_of p)) u (b ⊕ s)) (plus_comm a s) (Reaches-grows (rules_of p) a b s h))
 
--- it comes back
+-- the part that is carried comes back
 comes_back : (m : Operations) (s : Store) (l : Leases) (k : ℕ) (c : Option LeasedPart) → IsOut l c
     → ComesBack (replica m s l k) (carried_number c) (replica m (s ⊕ carried_store c) (left_out l c) k)
 comes_back m s l k None out = replica_is m m _ s l l k k refl (plus_empty s) refl refl
 comes_back m s l k (Some c) out = record { part = c.part.now; out = out; after = refl }
 
--- what was put in is leased out
+-- what was put into the pool is leased out
 takes_put : (m : Operations) (s part : Store) (l : Leases) (k : ℕ) → k ≤ LAST_LEASE
     → Takes (replica m (s ⊕ part) l k) part k (replica m s (map.insert l k part) (k + 1))
 takes_put m s part l k room = record {
@@ -121,7 +121,7 @@ module _ (p : Program) (m n : Operations) (s : Store) (l : Leases) (k : ℕ) (r 
       → TellsThem p r placed.InPool (replica m s l k) (replica n t left k)
   told_in_pool t left put gone = told_on None _ (replica_is n n t _ left _ k k refl put gone refl)
 
-  -- or is leased out
+  -- what was rested is leased out
   pub told_on_lease : (part : Store) (more left : Leases) → k ≤ LAST_LEASE → AreBelow l k → part ≡ r.rested.now
       → more ≡ map.insert l k part → left ≡ left_out more r.carried
       → TellsThem p r (placed.Leased k) (replica m s l k) (replica n s left (k + 1))

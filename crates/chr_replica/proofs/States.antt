@@ -51,7 +51,7 @@ pub replica_is : (m n : Operations) (s t : Store) (l k : Leases) (a b : ℕ) →
     → replica m s l a ≡ replica n t k b
 replica_is m n s t l k a b e f g h = λ i. record { operations = e i; pool = f i; out = g i; next = h i }
 
--- what each item passes each atom does
+-- a test passes each atom of a store where it passes each item of its bag
 pub each_item : (p : Atom → Bool) (s : Store) (b : Bool) → b ≡ list_all p (bag.items s) → IsTrue b ↔ Each p s
 each_item p s b e = (
   λ h. subst (Each p) (store_of-items s) (each_of_list p (bag.items s) (sym e ∙ h)),

@@ -9,6 +9,6 @@ pub record Held : Type 0 where
   pub accepted : Accepted
   pub replica : Replica
 
--- its program
+-- the program of a board
 abbrev pub program_on : Held → Program
 program_on b = program_in b.accepted

@@ -7,7 +7,7 @@ use Rattle.chr_replica.specs.Leases.{Leases}
 abbrev pub AreFrom : Leases → ℕ → Type 0
 AreFrom out k = (q : ℕ) → IsSome (map.get out q) → k ≤ q
 
--- it is the least number that is out, or none is out
+-- the number is the least that is out; where there is no number, none is out
 abbrev pub IsLeastOut : Leases → Option ℕ → Type 0
 IsLeastOut out (Some k) = IsSome (map.get out k) × AreFrom out k
 IsLeastOut out None = out ≡ map.empty

@@ -34,7 +34,7 @@ refusal_number refusal.NotThere = 39
 refusal_number refusal.NotAtRest = 40
 refusal_number refusal.Memory = 99
 
--- what an operation set's fault is called here
+-- the refusal for a fault of an operation set
 abbrev pub refusal_of : AddFault → Refusal
 refusal_of (fault.Clash id) = refusal.Clash id
 refusal_of fault.Full = refusal.Full limit.Told
@@ -72,7 +72,7 @@ RefusesTakeParts s n (refusal.Full limit.Leases) = LAST_LEASE + 1 < s.next + n
 RefusesTakeParts s n refusal.Memory = ⊤
 RefusesTakeParts s n _ = ⊥
 
--- a part with its number comes back that was leased out under the program q
+-- why a part that comes back under a number is refused, which was rewritten under the program q
 abbrev pub RefusesPut : Program → Replica → Program → ℕ → Store → Refusal → Type 0
 RefusesPut p s q number part (refusal.NoLease k) = (k ≡ number) × (¬ (map.get s.out number ≡ Some part))
 RefusesPut p s q number part refusal.ForeignProgram = (map.get s.out number ≡ Some part) × (¬ AreSame q p)

@@ -18,11 +18,15 @@ use Rattle.chr_rewrite.specs.Derivations.{LeadsTo}
 use Rattle.chr_replica.specs.Leases.{Leases, leased_store, with_parts, AreBelow, AreEven}
 use Rattle.chr_replica.specs.declared.limits.TheConstants.{LAST_LEASE}
 
--- its operations, its pool, the parts that are leased out by their numbers, and the next lease number
+-- a replica
 pub record Replica : Type 0 where
+  -- the operations that it was told
   pub operations : Operations
+  -- the atoms that are not leased out
   pub pool : Store
+  -- the parts that are leased out, by their lease numbers
   pub out : Leases
+  -- the next lease number
   pub next : ℕ
 
 -- the replica that was told nothing
@@ -33,7 +37,7 @@ first = record { operations = map.empty; pool = bag.empty; out = map.empty; next
 abbrev pub IsDeclared : Program → Operation → Type 0
 IsDeclared p op = Each (declares_atom (declarations p)) op.1
 
--- it declares those of each operation of a set
+-- the program declares the atoms of each operation of a set
 abbrev pub AreDeclared : Program → Operations → Type 0
 AreDeclared p m = (id : OpId) (b : Store) → map.get m id ≡ Some b → IsDeclared p (id, b)
 
@@ -49,7 +53,7 @@ pub record Tells (p : Program) (s : Replica) (op : Operation) (t : Replica) : Ty
     next = s.next;
   }
 
--- those of the operations that are new, n of them, join the operations, and their atoms the pool
+-- the new ones of some operations, n of them, join the operations, and their atoms the pool
 pub record Merges (p : Program) (s : Replica) (ops : List Operation) (n : ℕ) (t : Replica) : Type 0 where
   pub declared : All (IsDeclared p) ops
   pub no_clash : HasNoClash s.operations ops
@@ -121,7 +125,8 @@ pub record Settles (p : Program) (s : Replica) (n : ℕ) (t : Replica) : Type 0 
   pub run : Runs (Step (rules_of p)) n s.pool pool
   pub after : t ≡ record { operations = s.operations; pool = pool; out = s.out; next = s.next }
 
--- what was told is declared, and reaches the pool with all leased parts; no number that is to come is out
+-- what was told is declared, and reaches the pool together with all leased parts; each lease number that is out is
+-- below the next
 pub record IsSound (p : Program) (s : Replica) : Type 0 where
   pub declared : AreDeclared p s.operations
   pub reached : Reaches (Step (rules_of p)) (told_store s.operations) (s.pool ⊕ leased_store s.out)
@@ -142,8 +147,9 @@ abbrev pub GoesOut : Replica → Store → Option ℕ → Replica → Type 0
 GoesOut s part None t = t ≡ s
 GoesOut s part (Some number) t = Takes s part number t
 
--- A part that was out, if one is carried, comes back; each of the operations is told; then steps are taken in the pool,
--- which leave what it had at first, and beside that what was rested; and that is leased out, if a number is named.
+-- A part that was out, if one is carried, comes back; each of the operations is told; then steps are taken, after which
+-- the pool is what it was at first together with what was rested. If a lease number is named, what was rested is leased
+-- out under it.
 pub record TellsRested (p : Program) (s : Replica) (carried : Option ℕ) (ops : List Operation) (rested : Store)
     (lease : Option ℕ) (t : Replica) : Type 0 where
   pub back : Replica

@@ -25,17 +25,17 @@ abbrev pub carried_store : Option LeasedPart → Store
 carried_store None = bag.empty
 carried_store (Some c) = c.part.now
 
--- its number
+-- the number of the part that is carried, if there is one
 abbrev pub carried_number : Option LeasedPart → Option ℕ
 carried_number None = None
 carried_number (Some c) = Some c.number
 
--- it is out under its number
+-- the part that is carried, if there is one, is out under its number
 abbrev pub IsOut : Leases → Option LeasedPart → Type 0
 IsOut out None = ⊤
 IsOut out (Some c) = map.get out c.number ≡ Some c.part.now
 
--- The program declares the operations, and its steps lead from their atoms, with those that are carried, to what was
+-- The program declares the operations, and its steps lead from their atoms, together with the carried part, to what was
 -- rested.
 pub record AreRestedBy (p : Program) (r : RestedOps) : Type 0 where
   pub declared : All (IsDeclared p) r.ops.now
@@ -46,13 +46,13 @@ abbrev pub lease_number : Placed → Option ℕ
 lease_number placed.InPool = None
 lease_number (placed.Leased k) = Some k
 
--- it went where it was to go
+-- what was rested went where it was to go
 abbrev pub IsPlaced : Destination → Placed → Type 0
 IsPlaced destination.Pool placed.InPool = ⊤
 IsPlaced destination.Lease (placed.Leased k) = ⊤
 IsPlaced _ _ = ⊥
 
--- the replica s is told them, and what was rested went there
+-- the replica s is told the operations, and is t after it; what was rested went to the place x
 abbrev pub TellsThem : Program → RestedOps → Placed → Replica → Replica → Type 0
 TellsThem p r x s t = TellsRested p s (carried_number r.carried) r.ops.now r.rested.now (lease_number x) t
 
@@ -61,8 +61,8 @@ abbrev pub LacksNumber : Replica → Destination → Type 0
 LacksNumber s destination.Pool = ⊥
 LacksNumber s destination.Lease = LAST_LEASE < s.next
 
--- They can't be told: the carried part is not out, there is no lease number, not all of them are new, or they tell too
--- many atoms.
+-- The operations can't be told: the carried part is not out, there is no lease number, not all of them are new, or they
+-- tell too many atoms.
 abbrev pub RefusesThem : Replica → RestedOps → Destination → Type 0
 RefusesThem s r into =
     (¬ IsOut s.out r.carried) ⊎ LacksNumber s into ⊎ (¬ AreNew s.operations r.ops.now)

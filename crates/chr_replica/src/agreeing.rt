@@ -11,7 +11,7 @@ use crate::board::Board;
 use crate::laws::one_answer;
 
 /// Two boards of one program that hold the same operations and have settled hold the same store: the one normal form of
-/// what was told. It does nothing but look into the boards, for its contract.
+/// what was told. The call computes nothing: its contract says so of the two boards.
 pub fn agree(left: &Board, right: &Board)
     requires program { AreSame (program_on left.now) (program_on right.now) }
     requires operations { left.now.replica.operations ≡ right.now.replica.operations }

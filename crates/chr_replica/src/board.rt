@@ -22,13 +22,18 @@ mod telling;
 
 pub use leasing::NotPut;
 
-/// A replica of an accepted program. Its type keeps that what its operations tell reaches its pool with all leased
-/// parts, and that they tell at most [`MAX_TOLD`] atoms.
+/// A replica of an accepted program. Its type keeps that what its operations tell reaches its pool together with all
+/// leased parts, and that they tell at most [`MAX_TOLD`] atoms.
 pub struct Board {
+    // Its program, which has passed all checks.
     accepted: Arc<Accepted>,
+    // The operations that it was told.
     ops: OpSet,
+    // The atoms that are not leased out.
     pool: Shards,
+    // The parts that are leased out, by their lease numbers.
     out: Leases,
+    // The next lease number.
     next: u64,
 }
 
@@ -78,8 +83,8 @@ impl Board {
         })
     }
 
-    /// What its type keeps: its operations' atoms, which are of 64-bit values and no more than [`MAX_TOLD`], reach its
-    /// pool with all leased parts. It does nothing but look into the board, for its contract.
+    /// What the board's type keeps: the atoms of its operations, which are of 64-bit values and at most [`MAX_TOLD`],
+    /// reach its pool together with all leased parts. The call computes nothing: its contract says so of the board.
     pub fn is_sound(&self)
         ensures sound { IsSound (program_on self.now) self.now.replica }
         ensures values { HasValues (told_store self.now.replica.operations) }

@@ -19,7 +19,7 @@ fn part_of(alloc: Global, atoms: &[Atom]) -> Result<Bag, AllocError>
     Bag::of(items)
 }
 
-/// Cuts atoms into so many parts, each of the least size or of one atom more, and numbers them from one number on.
+/// Cuts atoms into `count` parts, each of the least size or of one atom more, and numbers them from a first number on.
 pub(crate) fn cut(
     alloc: Global,
     atoms: &[Atom],

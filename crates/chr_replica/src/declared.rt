@@ -27,7 +27,7 @@ pub fn declares(program: &Program, op: &Op) -> bool
     declares_atoms(program, op.bag().atoms())
 }
 
-/// Whether it declares those of all of these operations.
+/// Whether the program declares the atoms of all of these operations.
 pub fn declares_all(program: &Program, ops: &[Op]) -> bool
     ensures { IsTrue result ↔ All (IsDeclared program.now) ops.now }
 {

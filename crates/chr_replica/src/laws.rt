@@ -3,8 +3,8 @@ ghost use Rattle.chr_replica.specs.Laws.{FirstIsSound, OneAnswer};
 ghost use Rattle.chr_replica.specs.Laws.{TellKeeps, MergeKeeps, StepKeeps, TakeKeeps, TakePartsKeeps, PutKeeps};
 ghost use Rattle.chr_replica.specs.Laws.{RecallKeeps, SettleKeeps, TellRestedKeeps};
 
-/// The replica that was told nothing is sound, and each event keeps replicas so: what was told reaches the pool with
-/// all leased parts.
+/// The replica that was told nothing is sound, and each event leads from sound replicas to sound ones: what was told
+/// reaches the pool together with all leased parts.
 pub fn events_keep_replicas_sound()
     ensures first { FirstIsSound }
     ensures tell { TellKeeps }

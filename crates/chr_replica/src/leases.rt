@@ -78,8 +78,8 @@ impl Leases {
         Ok(())
     }
 
-    /// Puts copies of the parts of leases under rising numbers from one on that is above those that are out: all of
-    /// them, or none where memory is refused.
+    /// Puts copies of the parts of leases under rising numbers from a first one on, which is above those that are out:
+    /// all of them, or none where memory is refused.
     pub(crate) fn insert_all(
         &mut self,
         alloc: Global,
@@ -118,7 +118,7 @@ impl Leases {
         }
     }
 
-    /// How many are out. It takes no memory.
+    /// How many parts are out. It takes no memory.
     pub(crate) fn len(&self) -> usize
         ensures count { result ≡ map.len self.now }
         ensures none { result ≡ 0 → self.now ≡ map.empty }

@@ -17,7 +17,7 @@ pub enum Limit {
 /// Why a call was refused. Nothing has changed.
 #[derive(Clone, Copy, Debug, PartialEq, Eq)]
 pub enum Refusal {
-    /// An atom whose symbol the program doesn't declare with that many arguments.
+    /// The program doesn't declare an atom's symbol with the number of its arguments.
     UnknownSymbol,
     /// The id stands for another bag.
     Clash(OpId),
@@ -27,7 +27,7 @@ pub enum Refusal {
     NoLease(u64),
     /// A part comes back that was rewritten under another program.
     ForeignProgram,
-    /// So many leases are out, at least one.
+    /// This many leases are out, at least one.
     Leased(u64),
     /// The atoms are not in the pool, or the step is not one of a rule there.
     NotThere,

@@ -15,27 +15,27 @@ pub struct LeasedPart<'a> {
 /// Operations, and what some steps have made of their atoms before a board is told them.
 #[derive(Clone, Copy)]
 pub struct RestedOps<'a> {
-    /// They are told in this order.
+    /// The operations, in the order in which they are told.
     pub ops: &'a [Op],
-    /// The part of the board's pool that the steps were taken on, too.
+    /// A leased part of the board's pool, on which the steps were taken as well, if any.
     pub carried: Option<LeasedPart<'a>>,
-    /// What the steps have made of the operations' atoms and that part.
+    /// What the steps have made of the operations' atoms and of the carried part.
     pub rested: &'a Bag,
 }
 
 /// Where a board puts what the steps have made.
 #[derive(Clone, Copy, Debug, PartialEq, Eq)]
 pub enum Destination {
-    /// Its pool.
+    /// It goes into the board's pool.
     Pool,
-    /// It leases it out, under the next number.
+    /// It is leased out, under the next number.
     Lease,
 }
 
-/// Where a board has put it.
+/// Where a board has put what the steps have made.
 #[derive(Clone, Copy, Debug, PartialEq, Eq)]
 pub enum Placed {
-    /// Into its pool.
+    /// It is in the board's pool.
     InPool,
     /// It is leased out under this number.
     Leased(u64),

@@ -4,11 +4,11 @@ use Rattle.chr_base.specs.declared.atom.Atom.{Atom}
 use Rattle.chr_base.specs.FinBag.{◌⊕◌}
 use Rattle.chr_base.specs.Stores.{Store, store_of, size, stores_sum}
 
--- the part has so many atoms or one more
+-- the part has `least` atoms or one more
 abbrev pub IsNear : ℕ → Store → Type 0
 IsNear least part = (least ≤ size part) × (size part ≤ least + 1)
 
--- k of n parts are cut off the atoms, the first of them, as many as are over, with one atom more than the least
+-- Of n parts k are cut off the atoms. The first `over` parts have one atom more than the least number.
 pub record AreCut (least over n k : ℕ) (atoms rest : List Atom) (parts : List Store) : Type 0 where
   pub count : length parts ≡ k
   pub left : length rest ≡ (n - k) * least + (over - k)

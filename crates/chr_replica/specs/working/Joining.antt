@@ -7,7 +7,7 @@ use Rattle.chr_ops.specs.Operations.{Operation, Operations, told_atoms}
 use Rattle.chr_replica.specs.declared.rested.LeasedPart.{LeasedPart}
 use Rattle.chr_replica.specs.Leases.{Leases}
 
--- the operations are all new to the set m, which is n with them, and n is within the limit
+-- the operations are all new to the set m, with them it is n, and n is within the limit
 pub record JoinsNew (m : Operations) (ops : List Operation) (n : Operations) : Type 0 where
   pub new : AreNew m ops
   pub joined : n ≡ union m ops

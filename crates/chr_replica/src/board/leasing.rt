@@ -21,7 +21,7 @@ use chr_join::{Done, Lease};
 use chr_shards::Shards;
 use std::alloc::Global;
 
-/// What came of a lease and was not taken back, with the cause.
+/// What came of a lease and was not taken back, and why.
 #[derive(Drop)]
 pub struct NotPut {
     pub done: Done,
@@ -60,8 +60,8 @@ impl Board {
         })
     }
 
-    /// Leases the whole pool out in so many parts, 1 to [`MAX_PARTS`], under the next numbers. The sizes of any two
-    /// parts differ by at most one; a part may be empty. Where some argument joins the heads of each rule, the parts
+    /// Leases the whole pool out in `count` parts, 1 to [`MAX_PARTS`], under the next numbers. The sizes of any two
+    /// parts differ by at most one; a part may be empty. Where all rules join their heads by one argument, the parts
     /// are cut in the order of that argument, so that atoms which rules can join mostly stand in one part.
     ///
     /// # Errors

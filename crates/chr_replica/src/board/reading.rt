@@ -58,10 +58,10 @@ impl Board {
         Ok(self.pool.bag(alloc)?)
     }
 
-    /// The same as [`Board::show`], where several threads put the pool in order.
+    /// Like [`Board::show`], but several threads put the pool in order.
     ///
     /// # Errors
-    /// As those of [`Board::show`].
+    /// Those of [`Board::show`].
     pub fn show_by<R: Threads + Sync>(&self, rt: &R, alloc: Global) -> Result<Bag, Refusal>
         ensures pool { IfOk result (λ bag. bag ≡ self.now.replica.pool) }
         ensures settled { OnOk result (IsSettled (program_on self.now) self.now.replica) }
@@ -73,9 +73,9 @@ impl Board {
         Ok(self.pool.bag_by(rt, alloc)?)
     }
 
-    /// Adds the text of the pool that [`Board::show`] gives at the end of a text, without a bag of it, by so many
-    /// threads at most. False, and nothing is added, where it can't be shown, or its text can't be made so; then
-    /// [`Board::show`] tells.
+    /// Adds the text of the pool that [`Board::show`] gives at the end of a text, without a bag of it, by at most
+    /// `threads` threads. False is answered, and nothing is added, where the pool may not be shown or its text can't be
+    /// made in this way; [`Board::show`] then tells which.
     ///
     /// # Errors
     /// Where memory is refused.

@@ -13,8 +13,7 @@ use chr_rewrite::resting::Stopped;
 use std::thread::Threads;
 
 impl Board {
-    /// How many atoms of the pool wait to be looked at by the next settling; the others are at rest. It takes no
-    /// memory.
+    /// How many atoms of the pool the next settling has to look at; the others are at rest. It takes no memory.
     pub fn waiting(&self) -> usize
         ensures { result ≤ size self.now.replica.pool }
     {
@@ -35,13 +34,13 @@ impl Board {
             Settles (program_on self.old) self.old.replica e.steps self.new.replica) }
     {
         events_keep_replicas_sound();
-        // So few atoms are told that all steps are counted.
+        // Few enough atoms are told that all steps are counted in 64 bits.
         let _told = self.ops.told();
         self.pool.rest()
     }
 
-    /// Rests the pool by so many threads, where it is kept in several pools, and until memory is refused to one of
-    /// them: [`Board::settle`] then does what is left.
+    /// Takes steps in the pool by `threads` threads, where its atoms are kept in several pools, until all of these are
+    /// at rest or memory is refused to one of the threads: [`Board::settle`] then does what is left.
     pub fn hasten<R: Threads + Sync>(&mut self, rt: &R, threads: usize)
         requires { 0 < threads }
         ensures program { self.new.accepted ≡ self.old.accepted }

@@ -27,7 +27,7 @@ use chr_ops::{AddFault, Added, MAX_TOLD, Op, OpSet};
 use chr_shards::Shards;
 use std::alloc::{AllocError, Global};
 
-/// A new operation joins the set, and its atoms the pool.
+/// Adds a new operation to the set, and its atoms to the pool.
 fn put_in(ops: &mut OpSet, pool: &mut Shards, op: Op) -> Result<(), AllocError>
     requires new { IsNew ops.old op }
     requires room { told_atoms ops.old + size op.1 ≤ MAX_TOLD }
@@ -47,7 +47,7 @@ fn put_in(ops: &mut OpSet, pool: &mut Shards, op: Op) -> Result<(), AllocError>
     }
 }
 
-/// What is answered where new operations don't join the set: false, where it would tell too much.
+/// What is answered where new operations don't join the set: false, where more atoms would be told than the limit.
 fn untold(fault: AddFault) -> Result<bool, AllocError>
     ensures told { IfOk result (λ told. told ≡ false) }
     ensures full { OnOk result (fault ≡ Full) }
@@ -58,7 +58,8 @@ fn untold(fault: AddFault) -> Result<bool, AllocError>
     }
 }
 
-/// Operations that are all new join the set, and atoms the pool. Else nothing changes.
+/// Adds operations to the set, and atoms to the pool. False is answered, and nothing changes, where an operation is not
+/// new or too much would be told.
 fn join_pooled(
     alloc: Global,
     ops: &mut OpSet,
@@ -92,7 +93,8 @@ fn join_pooled(
     }
 }
 
-/// Operations that are all new join the set, and a part is leased out under the next number. Else nothing changes.
+/// Adds operations to the set, and leases a part out under the next number. False is answered, and nothing changes,
+/// where an operation is not new or too much would be told.
 fn join_leased(
     alloc: Global,
     ops: &mut OpSet,
@@ -193,7 +195,7 @@ impl Board {
         }
     }
 
-    /// Tells operations whose carried part, if any, is out, and puts what was rested into the pool.
+    /// Tells operations whose carried part, if any, is leased out, and puts what was rested into the pool.
     fn tell_in_pool(
         &mut self,
         alloc: Global,
@@ -216,7 +218,7 @@ impl Board {
         Ok(Some(Placed::InPool))
     }
 
-    /// Tells operations whose carried part, if any, is out, and leases out what was rested.
+    /// Tells operations whose carried part, if any, is leased out, and leases what was rested out.
     fn tell_on_lease(
         &mut self,
         alloc: Global,
@@ -245,11 +247,11 @@ impl Board {
         Ok(Some(Placed::Leased(number)))
     }
 
-    /// Tells operations that are all new, where some steps have made `rested` of their atoms and of the part that is
-    /// carried to them, if any: that part comes back, and what was rested goes into the pool, or is leased out. None,
-    /// and nothing changes, where one of them is not new, where more than [`MAX_TOLD`](chr_ops::MAX_TOLD) atoms would
-    /// be told, where that part is not out under its number, and where a lease number is wanted and they are used up.
-    /// It does not look at the operations' atoms.
+    /// Tells operations that are all new, where some steps have made `rested` of their atoms and of the carried part,
+    /// if any: that part comes back, and what was rested goes into the pool, or is leased out. Nothing is answered, and
+    /// nothing changes, where an operation is not new, where more than [`MAX_TOLD`](chr_ops::MAX_TOLD) atoms would be
+    /// told, where the carried part is not out under its number, and where what was rested is to be leased out and the
+    /// lease numbers are used up. It does not look at the operations' atoms.
     pub fn tell_rested(
         &mut self,
         alloc: Global,
