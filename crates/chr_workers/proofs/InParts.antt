@@ -37,7 +37,7 @@ put_rests p q s t n part result (Ok x) b is puts same rests = subst (λ c. OnTru
 }
 put_rests p q s t n part result (Err e) b is puts same rests = subst (λ c. OnTrue c (PutsRested p s t)) (sym is) tt
 
--- one more comes back
+-- one more part has come back
 pub put_more : (old before new : Held) (n : ℕ) (b : Bool) → before.accepted ≡ old.accepted → b ≡ true
     → PutsEach (program_on old) n old.replica before.replica
     → OnTrue b (PutsRested (program_on before) before.replica new.replica)
@@ -71,7 +71,7 @@ recalls_len (suc n) s t h =
     let less = one_less (h.0).out (h.2).0 (h.2).1.part (h.2).1.out in
     omega (arith, before, e, less)
 
--- parts under further numbers are out
+-- `parts` under further numbers are out
 with_parts_len : (out : Leases) (k : ℕ) (parts : List Store) → AreBelow out k
     → map.len (with_parts out k parts) ≡ map.len out + length parts
 with_parts_len out k [] below = omega arith

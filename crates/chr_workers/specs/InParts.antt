@@ -16,7 +16,7 @@ pub record PutsRested (p : Program) (s t : Replica) : Type 0 where
   pub puts : Puts p s number part result t
   pub rests : IsAtRest (Step (rules_of p)) result
 
--- n parts do, one after the other
+-- n parts come back as stores at rest that they reach, one after the other
 abbrev pub PutsEach : Program → ℕ → Replica → Replica → Type 0
 PutsEach p zero s t = t ≡ s
 PutsEach p (suc n) s t = (u : Replica) × PutsEach p n s u × PutsRested p u t
@@ -37,7 +37,7 @@ pub record RestsInParts (p : Program) (s : Replica) (count n : ℕ) (t : Replica
   pub recalls : RecallsEach others put t
   pub all : n + others ≡ count
 
--- there are not so many lease numbers left, and nothing happens
+-- fewer than `count` lease numbers are left, and nothing happens
 pub record LacksNumbers (s : Replica) (count n : ℕ) (t : Replica) : Type 0 where
   pub few : LAST_LEASE + 1 < s.next + count
   pub none : n ≡ 0

@@ -1,7 +1,7 @@
 //! What workers pass on their way.
 use chr_join::Lease;
 
-/// What a worker passes before it rests a part. It has no say in what comes of the part.
+/// What a worker passes before it rests a part. It has no effect on what comes of the part.
 pub trait Gate: Sync {
     /// Called with the number of the part that is rested next, which counts from 1.
     fn pass(&self, part: u32);
@@ -15,15 +15,15 @@ impl Gate for OpenGate {
     fn pass(&self, _part: u32) {}
 }
 
-/// A lease with which a gate was passed. [`Passed::by`] alone makes one, and it has nothing to rest a part with: what
-/// asks for such a value comes after the gate.
+/// A lease with which a gate was passed. Only [`Passed::by`] makes one, and only such a value can be rested: so no
+/// worker rests a part before it has passed the gate.
 #[derive(Drop)]
 pub(crate) struct Passed {
     lease: Lease,
 }
 
 impl Passed {
-    /// Passes a gate with a lease, whose part has that number.
+    /// Passes a gate with a lease, whose part has the number `part`.
     pub(crate) fn by<G: Gate>(gate: &G, part: u32, lease: Lease) -> Passed {
         gate.pass(part);
         Passed { lease }

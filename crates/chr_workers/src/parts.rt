@@ -13,12 +13,15 @@ use std::sync::{Mutex, Wait};
 use std::thread;
 use std::thread::Threads;
 
-/// A place for each part, which is claimed by its number: the lease that waits there, and what came of it, each under a
-/// lock of its own.
+/// A place for each part: the lease that waits there, and what came of it, each under a lock of its own. Workers claim
+/// parts by their numbers.
 #[derive(Drop)]
 struct Places {
+    // Which parts were claimed.
     claims: Claims,
+    // The lease of each part, until a worker takes it.
     waiting: Vec<Mutex<Option<Lease>>>,
+    // What came of each part, once it was rested.
     results: Vec<Mutex<Option<Rested>>>,
     ghost all_wait: { vec_len waiting ≡ claims.parts },
     ghost all_result: { vec_len results ≡ claims.parts },
@@ -34,7 +37,7 @@ pub struct Parts {
 }
 
 impl Places {
-    /// Empty places for so many parts, and the seats of so many workers.
+    /// Empty places for `parts` parts, and the seats of `workers` workers.
     fn open(alloc: Global, parts: u32, workers: u32) -> Result<(Places, Vec<ClaimSeat>), AllocError>
         requires workers { 1 ≤ workers }
         requires parts { parts ≤ MAX_PARTS }
@@ -67,7 +70,7 @@ impl Places {
 }
 
 impl Parts {
-    /// Room for so many parts and workers. No memory is wanted after it but for the resting itself.
+    /// Room for `parts` parts and `workers` workers. After it, memory is needed for the resting alone.
     pub fn open(alloc: Global, parts: u32, workers: u32) -> Result<Parts, AllocError>
         requires workers { (1 ≤ workers) × (workers ≤ MAX_WORKERS) }
         requires parts { parts ≤ MAX_PARTS }
@@ -77,8 +80,8 @@ impl Parts {
     }
 }
 
-/// One worker: it claims a part, passes the gate with it, rests it outside any lock, and puts down what came of it, as
-/// long as there are parts. One whose resting is refused memory is left out.
+/// The work of one worker, as long as there are parts: it claims one, passes the gate with it, rests it outside any
+/// lock, and puts down what came of it. A part whose resting is refused memory is left out.
 fn work<R: Wait, G: Gate>(
     rt: &R,
     alloc: Global,
@@ -138,8 +141,8 @@ fn start<R: Threads + Wait + Sync, G: Gate>(
     );
 }
 
-/// Rests leases by workers, of which the caller is the first, and answers what came of them. One whose resting is
-/// refused memory is left out, and so are those for which there is no room.
+/// Rests leases by workers, of which the caller is the first, and answers what came of them. Leases whose resting is
+/// refused memory, and those for which there is no room, are left out.
 pub fn rest_parts<R: Threads + Wait + Sync, G: Gate>(
     rt: &R,
     alloc: Global,

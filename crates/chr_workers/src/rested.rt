@@ -13,13 +13,13 @@ use std::alloc::Global;
 pub struct Rested {
     /// What is put for the lease.
     pub done: Done,
-    // So no other file makes one.
+    // Private, so that no other file makes one.
     made_here: (),
     pub ghost rests: { IsAtRest (Step (rules_in done.weighed)) done.result },
 }
 
 impl Rested {
-    /// What comes of a lease, where memory is not refused.
+    /// What comes of a lease, or nothing where memory is refused.
     pub(crate) fn of(alloc: Global, accepted: &Accepted, passed: Passed) -> Option<Rested> {
         match accepted.rest_part(alloc, passed.into_lease()) {
             Ok(done) => Some(Rested {

@@ -20,7 +20,7 @@ use std::alloc::{AllocError, Global};
 use std::sync::Wait;
 use std::thread::Threads;
 
-/// Where so few atoms wait at most, the pool is settled at once: threads would cost more than they save.
+/// The most waiting atoms with which the pool is settled at once: threads would cost more than they save.
 const FEW_ATOMS: u64 = 1024;
 
 /// Whether threads may save time.
@@ -28,16 +28,16 @@ fn is_worth_sharing(board: &Board, workers: u32) -> bool {
     workers > 1 && board.waiting() as u64 > FEW_ATOMS
 }
 
-/// Whether a pool that is not kept in several may be rested in parts. All of it is cut and put together again, so a
-/// good share of what was told has to wait.
+/// Whether a pool that is not kept in several may be rested in parts. All of it is cut and put together again, so this
+/// pays only where more than a quarter of the told atoms wait.
 fn is_worth_cutting(board: &Board, parts: u32) -> bool {
     parts > 1 && board.waiting() as u64 > board.ops().told() / 4
 }
 
-/// Leases the whole pool of a board out in so many parts, 1 to [`MAX_PARTS`]. So many workers, 1 to [`MAX_WORKERS`],
+/// Leases the whole pool of a board out in `parts` parts, 1 to [`MAX_PARTS`]. `workers` workers, 1 to [`MAX_WORKERS`],
 /// claim and rest them in threads, of which the caller's is one; a worker that cannot be started is left out. What came
-/// of them is put, and parts whose resting was refused memory are recalled. It answers how many came back rested: none,
-/// and nothing happens, where the lease numbers don't suffice.
+/// of the parts is put, and parts whose resting was refused memory are recalled. It answers how many came back rested:
+/// none, and nothing happens, where the lease numbers don't suffice.
 ///
 /// # Errors
 /// Where memory is refused. Leases may be out then.
@@ -81,7 +81,7 @@ fn has_the_answer(board: &Board)
     board.program().weighed();
 }
 
-/// Rests by workers what may be: the pools of a board that has several, and else parts that are leased out.
+/// Rests by workers what they can: the pools of a board that has several, and else parts that are leased out.
 fn rest_shared<R: Threads + Wait + Sync, G: Gate>(
     rt: &R,
     alloc: Global,
@@ -107,7 +107,7 @@ fn rest_shared<R: Threads + Wait + Sync, G: Gate>(
     Ok(())
 }
 
-/// Rests the pool by workers, and then what is left.
+/// Rests the pool by workers, and then what they left by this thread.
 fn rest_all<R: Threads + Wait + Sync, G: Gate>(
     rt: &R,
     alloc: Global,
@@ -126,14 +126,14 @@ fn rest_all<R: Threads + Wait + Sync, G: Gate>(
     rest(board)
 }
 
-/// Rests a board of which no lease is out. The pool is taken in so many parts, 1 to [`MAX_PARTS`], which so many
+/// Rests a board of which no lease is out. The pool is taken in `parts` parts, 1 to [`MAX_PARTS`], which `workers`
 /// workers, 1 to [`MAX_WORKERS`], claim and rest in threads, of which the caller's is one; a worker that cannot be
-/// started is left out. What came of them is put, and the rest is settled. A board that is kept in several pools is not
-/// taken apart: as many threads rest these where they lie. The pool is then the one normal form of what was told,
-/// whatever the workers did.
+/// started is left out. What came of the parts is put, and the rest is settled. A board that is kept in several pools
+/// is not taken apart: `workers` threads rest these where they lie. The pool is then the one normal form of what was
+/// told, whatever the workers did.
 ///
-/// It is settled at once where lease numbers are used up, and where parts would save no time: with one worker or one
-/// part, or where few atoms wait to be looked at, as in a board that was at rest before the last ones came in.
+/// The pool is settled at once where lease numbers are used up, and where parts would save no time: with one worker or
+/// one part, or where few atoms wait to be looked at, as in a board that was at rest before the last ones came in.
 ///
 /// # Errors
 /// Where memory is refused. Leases may be out then: [`Board::least_lease`] and [`Board::recall`] bring all back.

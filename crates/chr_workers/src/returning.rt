@@ -15,7 +15,7 @@ use std::alloc::AllocError;
 use std::sync::Mutex;
 use std::thread::Threads;
 
-/// Puts one result, which is at rest, and tells whether it was there, and was not refused.
+/// Puts one result, which is at rest. Answers whether there was one, and it was not refused.
 fn put_one(board: &mut Board, rested: Option<Rested>) -> bool
     ensures kept { IsKeptBy board.old board.new }
     ensures put { OnTrue result (PutsRested (program_on board.old) board.old.replica board.new.replica) }
@@ -27,7 +27,7 @@ fn put_one(board: &mut Board, rested: Option<Rested>) -> bool
     }
 }
 
-/// Puts all results that are there, and tells how many were not refused.
+/// Puts all results that are there, and answers how many were not refused.
 pub(crate) fn put_results(board: &mut Board, results: Vec<Mutex<Option<Rested>>>) -> usize
     ensures kept { IsKeptBy board.old board.new }
     ensures puts { PutsEach (program_on board.old) result board.old.replica board.new.replica }
@@ -42,7 +42,7 @@ pub(crate) fn put_results(board: &mut Board, results: Vec<Mutex<Option<Rested>>>
     count
 }
 
-/// Takes steps in the pools of a board by so many threads.
+/// Takes steps in the pools of a board by `workers` threads.
 pub(crate) fn hasten<R: Threads + Sync>(rt: &R, board: &mut Board, workers: u32)
     requires { 1 ≤ workers }
     ensures kept { IsKeptBy board.old board.new }
@@ -51,7 +51,7 @@ pub(crate) fn hasten<R: Threads + Sync>(rt: &R, board: &mut Board, workers: u32)
     board.hasten(rt, workers as usize);
 }
 
-/// Takes all parts of a board that are out back into its pool as they are. What comes of their leases later is refused.
+/// Takes all leased parts of a board back into its pool as they are. What comes of their leases later is refused.
 ///
 /// # Errors
 /// Where memory is refused. Some leases may be out then.
