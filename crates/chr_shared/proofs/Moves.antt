@@ -20,7 +20,7 @@ use Rattle.chr_shared.specs.Tie.{Appends, IsBySeat, Checks, Fits, IsTied}
 off : false ≡ true → ⊥
 off e = true≢false (sym e)
 
--- the entry that was added, seen by a seat
+-- an entry of a seat that is added to the log is added to the seat's entries
 of_seat_own : (n : ℕ) (log : List Entry) (e : Entry) → e.seat ≡ n → of_seat n (log ++ e ∷ []) ≡ of_seat n log ++ e ∷ []
 of_seat_own n log e is = filter-append _ log (e ∷ []) ∙ ap (λ (b : Bool). of_seat n log ++ cond b (e ∷ []) [])
     (eq-eqb e.seat n is)
@@ -29,7 +29,7 @@ of_seat_other : (n : ℕ) (log : List Entry) (e : Entry) → e.seat ≢ n → of
 of_seat_other n log e apart = filter-append _ log (e ∷ [])
     ∙ (ap (λ (b : Bool). of_seat n log ++ cond b (e ∷ []) []) (ne_eqb e.seat n apart) ∙ append-nil (of_seat n log))
 
--- the place of one seat, changed
+-- the places of the seats, where that of one has changed
 moved : (ℕ → ℕ) → ℕ → ℕ → ℕ → ℕ
 moved places n k m = cond (eqb m n) k (places m)
 
@@ -41,7 +41,7 @@ moved_else : (places : ℕ → ℕ) (n k m : ℕ) → m ≢ n → moved places n
 unfolding moved
 moved_else places n k m apart = grind (arith, nat_tests)
 
--- what holds of each view, after one view has changed
+-- what holds of each view holds of each after one has changed
 fits_set : (F : ℕ → Known → Type 0) (views : List Known) (k : ℕ) (w : Known)
     → ((j : ℕ) (u : Known) → j ≢ k → get_elem? views j ≡ some u → F j u) → F k w → (j : ℕ) (u : Known)
     → get_elem? (set views k w) j ≡ some u → F j u
@@ -51,7 +51,7 @@ fits_set F views k w others mine j u at =
     (λ (h : (j ≢ k) × (get_elem? views j ≡ some u)). others j u h.0 h.1)
     (at_set views k j w u at)
 
--- the last view
+-- a view in a list is the last or stands before it
 at_end : (l : List Known) (a b : Known) (j : ℕ) → get_elem? (l ++ a ∷ []) j ≡ some b
     → ((get_elem? l j ≡ some b) × (j < length l)) ⊎ ((j ≡ length l) × (a ≡ b))
 at_end [] a b zero e = inr (refl, some-injective a b e)
@@ -60,7 +60,7 @@ at_end (x ∷ xs) a b zero e = inl (e, omega arith)
 at_end (x ∷ xs) a b (suc j) e = ⊎_elim (λ t. inl (t.0, omega (arith, t.1))) (λ t. inr (ap suc t.0, t.1))
     (at_end xs a b j e)
 
--- views but the last
+-- what holds of all views but the last, and of the last, holds of each
 fits_snoc : (F : ℕ → Known → Type 0) (views : List Known) (w : Known)
     → ((j : ℕ) (u : Known) → j < length views → get_elem? views j ≡ some u → F j u) → F (length views) w
     → (j : ℕ) (u : Known) → get_elem? (views ++ w ∷ []) j ≡ some u → F j u
@@ -98,7 +98,7 @@ fits_nobody keeper_at count log places j =
       number = (λ h. absurd (off h));
     }
 
--- the keeper alone, where it fits with a visitor or without
+-- the keeper's view without its visitor fits where it did with the visitor
 fits_alone : (keeper_at count : ℕ) (log : List Entry) (places now : ℕ → ℕ) (j : ℕ) (v : Known) → v.keeps ≡ true
     → Fits keeper_at count log places j v → Fits keeper_at count log now j (alone v)
 fits_alone keeper_at count log places now j v holds f =
@@ -125,7 +125,7 @@ fits_seat keeper_at count log places n j mine is number =
       number = (λ _. number);
     }
 
--- the table as it is made
+-- the table is tied as it is made
 pub begins : IsTied (opening (0 ∷ []) [] (keeper [] 0))
 begins = record { keeper_at = 0; count = 0; log = []; places = (λ _. 0); each = one; seats = All-nil (IsBySeat 0) }
   where
@@ -180,7 +180,7 @@ visits id v other u holds sits state tied at apart there =
           (fits_nobody tied.keeper_at tied.count tied.log places other);
     }
 
--- the entry goes to both lists
+-- the entry that is appended to both lists keeps the tie
 appended_tied : (e : Entry) (state : State ℕ Known) (words : List ℕ) (tied : IsTied state) (id : ℕ) (v : Known)
     → get_elem? state.views id ≡ some v → v.keeps ≡ true → v.sits ≡ true → v.number ≡ e.seat
     → IsTied record { words = words; homes = state.homes; views = set state.views id (appended v e) }
@@ -227,7 +227,7 @@ appends e slots id me holds sits own state tied long at fits =
       (refl, mine.mine sits ∙ ap (of_seat me.0.number) (sym (mine.all holds))),
     )
 
--- the caller's list goes back
+-- the visitor's view is parted from the keeper's
 pub parts : (id : ℕ) (v : Known) → v.keeps ≡ true → v.sits ≡ true → Splits IsTied id v (alone v) (visitor v)
 parts id v holds sits state tied at =
     let mine = tied.each id v at in
@@ -348,11 +348,11 @@ drop_front : {X : Type 0} (xs ys : List X) → drop (length xs) (xs ++ ys) ≡ y
 drop_front [] ys = refl
 drop_front (x ∷ xs) ys = drop_front xs ys
 
--- what stands behind the journal as it was
+-- what stands behind the journal as it was before the opening
 pub dropped : {X : Type 0} (before all after : List X) → all ≡ before ++ after → drop (length before) all ≡ after
 dropped before all after is = ap (drop (length before)) is ∙ drop_front before after
 
--- what holds of each element at its place, after one more
+-- what holds of each element at its place holds so after one more
 pub each_pushed : {X : Type 0} (P : ℕ → X → Type 0) (xs : List X) (x : X)
     → ((k : ℕ) (d : X) → k < length xs → P k (get_or xs k d)) → P (length xs) x → (k : ℕ) (d : X)
     → k < length (xs ++ x ∷ []) → P k (get_or (xs ++ x ∷ []) k d)

@@ -29,14 +29,14 @@ placed journal all log is seats own r h =
     let inside = contains_filter _ log r (subst (λ l. Contains l r) o h.2) in
     subst (λ l. Contains l r) (sym is) (Contains-append_right journal log r inside)
 
--- what holds of the one element of a list
+-- what holds of the one element of a list holds of all
 pub all_of_one : {X : Type 0} (P : X → Type 0) (xs : List X) (x : X) → xs ≡ x ∷ [] → P x → All P xs
 all_of_one P xs x is p = All-same P xs (x ∷ []) is (All-cons P x [] p (All-nil P))
 
 pub of_one : {X : Type 0} (P : X → Type 0) (xs : List X) (x : X) → xs ≡ x ∷ [] → All P xs → P x
 of_one P xs x is all = All-head P x [] (subst (All P) is all)
 
--- seats with the numbers from 1 on, and one more
+-- seats that are numbered from 1 on are so after one more
 pub numbered_more : (seats : List SeatView) (k : ℕ) (x : SeatView) → x ≡ get_or seats k x → k < length seats → x.number
     ≡ k + 1
     → ((j : ℕ) (d : SeatView) → j < k → (get_or seats j d).number ≡ j + 1) → (j : ℕ) (d : SeatView) → j < k + 1

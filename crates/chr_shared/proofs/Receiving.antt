@@ -25,7 +25,7 @@ pub none_given : (numbers : List ℕ) → Returns numbers []
 none_given [] = tt
 none_given (n ∷ ns) = tt
 
--- the first number and the others are all
+-- the first number and the others are all numbers
 pub whole : (numbers : List ℕ) → 1 ≤ length numbers → get_or numbers 0 0 ∷ take (length numbers - 1) (drop 1 numbers)
     ≡ numbers
 whole [] h = absurd (omega (arith, h))
@@ -134,7 +134,7 @@ rests_in parts old new es shown is r =
     ended old new r.taken r.returns r.tail es shown is r.list e.1)
     r.ends
 
--- what came to a store is in the list
+-- the receipt of a settling that came to a store is in the list
 pub shown_in : (parts : ℕ) (old new : List Entry) (result : Settled)
     → ((es : List Entry) × (new ≡ old ++ es) × AnswersWith parts result es) → IsShownIn new result
 shown_in parts old new (settled.NotRested r) h = tt

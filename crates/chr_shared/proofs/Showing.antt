@@ -40,7 +40,7 @@ abbrev refusal_or : Refusal → Option Refusal → Refusal
 refusal_or d (Some r) = r
 refusal_or d None = d
 
--- a show that was refused
+-- the answer after a show that was refused
 pub refused_answer : (shown : Entry) (x : Reply) (r : Refusal) → shown.reply ≡ x → IsShowReply x → refusal_in x ≡ Some r
     → IsAnswerOf shown (settled.NotRested r)
 refused_answer shown (reply.Refused (refusal.Leased n)) r is h e =
@@ -49,13 +49,13 @@ refused_answer shown (reply.Refused _) r is h e = absurd h
 refused_answer shown (reply.Shown bag) r is h e = absurd (none-some r e)
 refused_answer shown _ r is h e = absurd h
 
--- a show that was not
+-- a show that was not refused tells a store
 pub shown_answer : (x : Reply) → IsShowReply x → refusal_in x ≡ None → IsShown x
 shown_answer (reply.Shown bag) h e = tt
 shown_answer (reply.Refused r) h e = absurd (none-some r (sym e))
 shown_answer _ h e = absurd h
 
--- a settle, and a show that is answered so
+-- a settle and a show end as the show's entry says
 pub answer_ends : (old mid new : List Entry) (a shown : Entry) (r : Settled) → mid ≡ old ++ a ∷ [] → new ≡ mid ++ shown
     ∷ [] → a.act ≡ act.Settle → shown.act ≡ act.Show → IsAnswerOf shown r → (es : List Entry) × (new ≡ old ++ es)
     × EndsWith r es

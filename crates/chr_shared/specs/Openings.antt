@@ -4,11 +4,15 @@ use Rattle.atomic_table.specs.Seated.{TableId}
 use Rattle.chr_join.specs.declared.accepted.Accepted.{Accepted}
 use Rattle.chr_acts.specs.declared.entry.Entry.{Entry}
 
--- the table that ties receipts to entries, the accepted program, the journal as it was, and the number of seats
+-- an opening of a book
 pub record OpeningView : Type 0 where
+  -- the table that ties receipts to entries
   pub table : TableId
+  -- the accepted program of the book's board
   pub accepted : Option Accepted
+  -- the journal as it was before the opening
   pub journal : List Entry
+  -- the number of seats
   pub seats : ℕ
 
 -- a seat: its number and its receipts, in their order

@@ -13,13 +13,13 @@ abbrev pub mine_of : List Known → List Entry
 mine_of [] = []
 mine_of (v ∷ vs) = v.mine
 
--- seats with the numbers from 1 on, and no receipts
+-- the seats have the numbers from 1 on, and no receipts
 abbrev pub AreNew : List SeatView → Type 0
 AreNew seats =
     (k : ℕ) (d : SeatView) → k < length seats
     → ((slice_index_or seats k d).number ≡ k + 1) × ((slice_index_or seats k d).list ≡ [])
 
--- seats with the numbers from 1 on
+-- the seats have the numbers from 1 on
 abbrev pub AreNumbered : List SeatView → Type 0
 AreNumbered seats = (k : ℕ) (d : SeatView) → k < length seats → (slice_index_or seats k d).number ≡ k + 1
 
@@ -42,7 +42,8 @@ GetsOne P old new = (e : Entry) × (new.list ≡ old.list ++ e ∷ []) × P e
 abbrev pub GetsAll : (List Entry → Type 0) → SeatView → SeatView → Type 0
 GetsAll P old new = (es : List Entry) × (new.list ≡ old.list ++ es) × P es
 
--- The seat got the receipt of what was asked, under its next number. The journal is the one before the opening.
+-- The seat got the receipt of the act that was asked, under the seat's next number. `journal` is that before the
+-- opening.
 pub record Receives (journal : List Entry) (asked : Act) (old : SeatView) (receipt : Entry)
     (new : SeatView) : Type 0 where
   pub list : new.list ≡ old.list ++ receipt ∷ []

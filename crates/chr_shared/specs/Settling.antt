@@ -15,7 +15,7 @@ use Rattle.chr_acts.specs.declared.reply.Reply.TheVariants as reply
 use Rattle.chr_shared.specs.declared.settled.Settled.{Settled}
 use Rattle.chr_shared.specs.declared.settled.Settled.TheVariants as settled
 
--- the act gives the part of a number back: what came of it, at rest, is put, or it is recalled
+-- the act gives the part with this number back: it puts what came of the part, at rest, or recalls the part
 abbrev pub GivesBack : ℕ → Act → Type 0
 GivesBack number (act.Put done) = (done.number ≡ number) × IsAtRest (Step (rules_in done.weighed)) done.result
 GivesBack number (act.Recall k) = k ≡ number
@@ -24,7 +24,7 @@ GivesBack number _ = ⊥
 abbrev pub IsReturn : ℕ → Entry → Type 0
 IsReturn number e = GivesBack number e.act
 
--- the first of the parts of these numbers, as many as there are receipts, were given back in their order
+-- the receipts are of giving back the first parts of these numbers, one receipt for each, in their order
 abbrev pub Returns : List ℕ → List Entry → Type 0
 Returns numbers [] = ⊤
 Returns [] (e ∷ es) = ⊥
@@ -34,17 +34,17 @@ abbrev pub IsShown : Reply → Type 0
 IsShown (reply.Shown bag) = ⊤
 IsShown _ = ⊥
 
--- there are no further receipts, or that of a settle
+-- there are no further receipts, or one of a settle
 abbrev pub IsTail : List Entry → Type 0
 IsTail [] = ⊤
 IsTail (a ∷ []) = a.act ≡ act.Settle
 IsTail _ = ⊥
 
--- a settle and a show, the last of these receipts, which is answered so
+-- the receipts are of a settle and then of a show, which is `shown`
 abbrev pub IsPair : List Entry → Entry → Type 0
 IsPair es shown = (a : Entry) × (a.act ≡ act.Settle) × (shown.act ≡ act.Show) × (es ≡ a ∷ shown ∷ [])
 
--- what comes of the last receipts
+-- what comes of a settling whose last receipts these are
 abbrev pub EndsWith : Settled → List Entry → Type 0
 EndsWith (settled.Rest shown) es = IsPair es shown × IsShown shown.reply
 EndsWith (settled.NotRested (refusal.Leased n)) es =
@@ -55,7 +55,7 @@ EndsWith (settled.NotRested _) es = ⊥
 abbrev pub numbers_in : List Lease → List ℕ
 numbers_in leases = map (λ l. l.number) leases
 
--- the pool was taken in so many parts
+-- the pool was taken in `parts` parts
 pub record IsTaken (parts : ℕ) (leases : List Lease) (e : Entry) : Type 0 where
   pub act : e.act ≡ act.TakeParts parts
   pub reply : e.reply ≡ reply.LeasedParts leases
@@ -67,13 +67,13 @@ StopsTaking parts (refusal.Full what) es =
 StopsTaking parts refusal.Memory es = (es ≡ []) ⊎ ((e : Entry) × (es ≡ e ∷ []) × (e.act ≡ act.TakeParts parts))
 StopsTaking parts _ es = ⊥
 
--- what comes of the receipts after those of parts that were given back: there are none, or all parts were given back
+-- What comes of the receipts after those of parts that were given back: there are none, or all parts were given back.
 abbrev pub IsEnd : List Entry → List ℕ → List Entry → Settled → Type 0
 IsEnd returns numbers tail result =
     ((tail ≡ []) × (result ≡ settled.NotRested refusal.Memory))
     ⊎ ((length returns ≡ length numbers) × EndsWith result tail)
 
--- parts were taken and given back, all of them where there are receipts after those, and what comes of these
+-- Parts were taken, and some given back; all were where there are further receipts. Then comes what these end with.
 pub record Rests (parts : ℕ) (es : List Entry) (result : Settled) : Type 0 where
   pub taken : Entry
   pub leases : List Lease
@@ -89,12 +89,12 @@ abbrev pub AnswersWith : ℕ → Settled → List Entry → Type 0
 AnswersWith parts result es =
     ((r : Refusal) × (result ≡ settled.NotRested r) × StopsTaking parts r es) ⊎ Rests parts es result
 
--- where it came to a store, the list has the receipt, which is that of a show that told a store
+-- where a settling came to a store, the list has its receipt, which is that of a show that told a store
 abbrev pub IsShownIn : List Entry → Settled → Type 0
 IsShownIn list (settled.Rest receipt) = Contains list receipt × (receipt.act ≡ act.Show) × IsShown receipt.reply
 IsShownIn list (settled.NotRested _) = ⊤
 
--- the last of them, if any
+-- the last entry of a list, or d where it has none
 abbrev pub last_of : Entry → List Entry → Entry
 last_of d [] = d
 last_of d (e ∷ es) = last_of e es
@@ -120,7 +120,7 @@ IsShowReply (reply.Shown bag) = ⊤
 IsShowReply (reply.Refused (refusal.Leased n)) = ⊤
 IsShowReply _ = ⊥
 
--- what is answered where the show was answered so
+-- what a settling answers, by the entry of its show
 abbrev pub IsAnswerOf : Entry → Settled → Type 0
 IsAnswerOf shown (settled.Rest receipt) = (receipt ≡ shown) × IsShown shown.reply
 IsAnswerOf shown (settled.NotRested (refusal.Leased n)) = shown.reply ≡ reply.Refused (refusal.Leased n)

@@ -21,7 +21,7 @@ keeper all dealt = record { keeps = true; all = all; dealt = dealt; sits = false
 abbrev pub sitting : ℕ → List Entry → Known
 sitting number mine = record { keeps = false; all = []; dealt = 0; sits = true; number = number; mine = mine }
 
--- the keeper with a visitor
+-- the view of the keeper with a visitor
 abbrev pub hosting : List Entry → ℕ → ℕ → List Entry → Known
 hosting all dealt number mine = record {
   keeps = true;
@@ -67,7 +67,7 @@ Checks before after =
     (after ≡ before) × (before.0.mine ≡ of_seat before.0.number before.0.all)
     × All (IsBySeat before.0.dealt) before.0.all
 
--- What the tie says of the view v at the place k, where the keeper's view is at `keeper_at`, so many seats were dealt,
+-- What the tie says of the view v at the place k, where the keeper's view is at `keeper_at`, `count` seats were dealt,
 -- and the seat n has its view at `places n`.
 pub record Fits (keeper_at count : ℕ) (log : List Entry) (places : ℕ → ℕ) (k : ℕ) (v : Known) : Type 0 where
   pub head : v.keeps ≡ true → k ≡ keeper_at
@@ -77,7 +77,7 @@ pub record Fits (keeper_at count : ℕ) (log : List Entry) (places : ℕ → ℕ
   pub mine : v.sits ≡ true → v.mine ≡ of_seat v.number log
   pub number : v.sits ≡ true → (0 < v.number) × (v.number ≤ count)
 
--- one log, which the keeper knows whole, and of which each seat has its own entries
+-- there is one log, all of which the keeper knows, and of which each seat knows its own entries
 pub record IsTied (state : State ℕ Known) : Type 0 where
   pub keeper_at : ℕ
   pub count : ℕ

@@ -1,6 +1,7 @@
-//! Books that threads share. An [`Opening`] prepares a book for so many seats, and [`Shared::open`] gives the seats
+//! Books that threads share. An [`Opening`] prepares a book for a number of seats, and [`Shared::open`] gives the seats
 //! out. Each call of a seat is one act under the book's lock, and answers a receipt: an equal copy of the entry that it
-//! made. [`Shared::close`] gives the book back; its journal since the opening has just the receipts of the seats.
+//! made. [`Shared::close`] gives the book back; its journal since the opening has the receipts of the seats and no
+//! other entries.
 #![tactic(auto)]
 
 mod laws;

@@ -1,4 +1,4 @@
-//! What lies under the lock: the book, and the pass that knows its journal since the opening.
+//! What lies under the lock: the book, and the view of the tie that has the book's journal since the opening.
 ghost use Rattle.std.specs.Prelude.{◌≡◌, ◌≤◌, ◌<◌, ◌++◌, ◌∷◌, [], true, Some, List, All, IfOk, IfErr, OnErr, OnOk};
 ghost use Rattle.chr_base.specs.declared.limits.TheConstants.{MAX_PARTS};
 ghost use Rattle.chr_replica.specs.Boards.{program_on};
@@ -27,7 +27,8 @@ use std::marker::{Brand, Model, PhantomData};
 use std::mem;
 use std::sync::Arc;
 
-/// A book with the pass that knows its journal since the opening. A contract sees it as the board, with that journal.
+/// A book with the view of the tie that has its journal since the opening. A contract sees it as the board, with that
+/// journal.
 #[derive(Drop)]
 pub struct LockedBook<J: Naming> {
     pub(crate) book: Book,
@@ -54,8 +55,8 @@ impl<J: Naming> Model for LockedBook<J> {
 }
 
 impl<J: Naming> LockedBook<J> {
-    /// One call of a seat: its entry is the next of the journal and of the seat's list. The seat's badge comes to the
-    /// pass, the entry is appended to both lists, and the badge goes back.
+    /// One call of a seat: its entry is the next of the journal and of the seat's list. The seat's view of the tie is
+    /// joined to that under the lock, the entry is appended to both lists, and the two views are parted again.
     pub fn call(
         &mut self,
         alloc: Global,
@@ -176,7 +177,7 @@ impl<J: Naming> LockedBook<J> {
         answer_of(shown)
     }
 
-    /// Its program.
+    /// The program of the book's board.
     pub fn program(&self) -> Result<Arc<Accepted>, AllocError> {
         self.book.board().program().clone()
     }
@@ -209,7 +210,8 @@ impl<J: Naming> LockedBook<J> {
     }
 }
 
-/// Appends an entry to the lists of the pass and of its visitor. What the visitor had was its part of the journal.
+/// Appends an entry to both lists of a view that has the journal and a seat's list. What the seat's list had before was
+/// the seat's part of the journal.
 fn append<E: EntryName>(table: &TieTable, pass: &mut Pass, entry: &Entry)
     requires name { entry.now ≡ E.entry }
     requires table { (pass.old.table_id ≡ table.now.shared.table_id) × (0 < table.now.shared.table_id.words) }
@@ -222,7 +224,7 @@ fn append<E: EntryName>(table: &TieTable, pass: &mut Pass, entry: &Entry)
     table.shared.load::<Append<E>>(pass, 0);
 }
 
-/// Appends the last entry of the book to the lists of the pass and of its visitor.
+/// Appends the last entry of the book to both lists of a view that has the journal and a seat's list.
 fn append_last<E: EntryName>(table: &TieTable, pass: &mut Pass, book: &Book)
     requires name { last_of no_entry book.now.entries ≡ E.entry }
     requires table { (pass.old.table_id ≡ table.now.shared.table_id) × (0 < table.now.shared.table_id.words) }
@@ -234,14 +236,14 @@ fn append_last<E: EntryName>(table: &TieTable, pass: &mut Pass, book: &Book)
     table.shared.load::<Append<E>>(pass, 0);
 }
 
-/// Whether it is the reply of a settle that was refused memory.
+/// Whether a reply is that of a settle that was refused memory.
 fn was_stopped(reply: &Reply) -> bool
     ensures { result ≡ is_stopped reply.now }
 {
     matches!(reply, Reply::Stopped(_))
 }
 
-/// Why a call was refused, where it was.
+/// Why a call was refused, if it was.
 fn refusal_of(reply: &Reply) -> Option<Refusal>
     ensures { result ≡ refusal_in reply.now }
 {
@@ -251,7 +253,7 @@ fn refusal_of(reply: &Reply) -> Option<Refusal>
     }
 }
 
-/// What is answered where the show of a pool at rest was answered so.
+/// The answer of a settling, by the entry of its show of a pool at rest.
 fn answer_of(shown: Entry) -> Settled
     requires { IsShowReply shown.reply }
     ensures { IsAnswerOf shown result }

@@ -10,7 +10,7 @@ use std::alloc::{AllocError, Global};
 use std::marker::{Brand, Model};
 
 /// Names one opening, so that the types of its seats and of what is shared tell it from others. A function that shares
-/// a book has it as a parameter, and its caller picks it: `Brand` is a name for each call.
+/// a book has such a name as a parameter, and its caller picks it: `Brand` is a new name for each call.
 pub trait Naming {
     ghost use Rattle.chr_shared.specs.Openings.{OpeningView};
 
@@ -25,9 +25,13 @@ impl Naming for Brand {
 
 /// A book that is about to be shared, with the table that ties its seats to its journal.
 #[derive(Drop)]
+// The book, which no thread uses yet.
 pub struct Opening {
+    // What ties the receipts of the seats to the journal.
     pub(crate) book: Book,
+    // The view of the table that has the journal since the opening.
     pub(crate) table: TieTable,
+    // How many seats there will be.
     pub(crate) pass: Pass,
     pub(crate) seats: u32,
 }
@@ -54,7 +58,7 @@ impl Model for Opening {
 }
 
 impl Opening {
-    /// Prepares a book for so many seats, 1 to [`MAX_SEATS`].
+    /// Prepares a book for `seats` seats, 1 to [`MAX_SEATS`].
     ///
     /// # Errors
     /// Where memory is refused, with the book.

@@ -32,7 +32,7 @@ impl<J: Naming> Model for Seat<J> {
 }
 
 impl<J: Naming> Seat<J> {
-    /// Its number. The seats of an opening have the numbers 1, 2 and so on. It takes no memory.
+    /// The seat's number. The seats of an opening have the numbers 1, 2 and so on. It takes no memory.
     pub fn number(&self) -> u32
         ensures { result ≡ self.now.number }
     {

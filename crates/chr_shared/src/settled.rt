@@ -7,7 +7,7 @@ use chr_replica::Refusal;
 pub enum Settled {
     /// The receipt of the show.
     Rest(Entry),
-    /// Why it did not come to a store that is shown: `Full` where the lease numbers are used up, `Leased` where other
-    /// leases are out, `Memory`. Leases may be out.
+    /// Why the pool did not come to rest or is not shown: `Full` where the lease numbers are used up, `Leased` where
+    /// other leases are out, `Memory`. Leases may be out.
     NotRested(Refusal),
 }

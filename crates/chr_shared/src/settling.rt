@@ -30,7 +30,7 @@ fn numbers_of(alloc: Global, leases: &[Lease]) -> Result<Vec<u64>, AllocError>
 }
 
 impl<J: Naming> Shared<J> {
-    /// Its program.
+    /// The program of the book's board.
     fn program<R: Wait>(&self, rt: &R) -> Result<Arc<Accepted>, AllocError> {
         self.locked.lock(rt).program()
     }
@@ -53,7 +53,7 @@ impl<J: Naming> Shared<J> {
             .take_parts(alloc, &self.table, seat, parts)
     }
 
-    /// Puts what came of a part, where it is of that number.
+    /// Puts what came of a part that was leased out under `number`.
     fn put_back<R: Wait>(
         &self,
         rt: &R,
@@ -75,7 +75,7 @@ impl<J: Naming> Shared<J> {
         }
     }
 
-    /// Recalls a part.
+    /// Takes the part that is leased out under a number back as it is.
     fn recall_back<R: Wait>(
         &self,
         rt: &R,
@@ -93,7 +93,7 @@ impl<J: Naming> Shared<J> {
         }
     }
 
-    /// Puts what came of a part, or recalls the part.
+    /// Puts what came of a part, or takes the part back as it is where nothing came of it.
     fn give_back<R: Wait>(
         &self,
         rt: &R,
@@ -191,9 +191,9 @@ impl<J: Naming> Shared<J> {
         }
     }
 
-    /// Calls of the seat: the pool is taken in so many parts, 1 to [`MAX_PARTS`]; so many workers, 1 to
-    /// [`MAX_WORKERS`], rest them with no lock held; what came of each part is put, or the part is recalled where
-    /// memory was refused; and then the pool is rested and shown under one lock.
+    /// Rests the pool by workers, in calls of the seat. The pool is taken in `parts` parts, 1 to [`MAX_PARTS`];
+    /// `workers` workers, 1 to [`MAX_WORKERS`], rest them with no lock held; what came of each part is put, or the part
+    /// is recalled where memory was refused; and then the pool is rested and shown under one lock.
     pub fn settle_with<R: Threads + Wait + Sync, G: Gate>(
         &self,
         rt: &R,

@@ -247,7 +247,7 @@ impl<J: Naming> Shared<J> {
         self.call(rt, alloc, seat, Act::LeastLease)
     }
 
-    /// Whether these are all its seats, in the order of their numbers. It takes no memory.
+    /// Whether these are all seats of the sharing, in the order of their numbers. It takes no memory.
     pub fn has_all(&self, seats: &[Seat<J>]) -> bool
         ensures { IsTrue result ↔ (length seats.now ≡ J.opening.seats) × AreNumbered seats.now }
     {
@@ -255,8 +255,8 @@ impl<J: Naming> Shared<J> {
     }
 
     /// Ends the sharing. The journal since the opening has, of each seat, just that seat's receipts in their order, and
-    /// no other entries. It takes all seats, in the order of their numbers ([`Shared::has_all`]). Each of the receipts
-    /// that are given stands in the journal, with the act, the reply, the seat and the number that it tells.
+    /// no other entries. The call takes all seats, in the order of their numbers ([`Shared::has_all`]). Each of
+    /// `receipts` stands in the journal, with the act, the reply, the seat and the number that it tells.
     pub fn close(self, seats: Vec<Seat<J>>, receipts: &[Entry]) -> Book
         requires numbers { AreNumbered seats.items }
         requires all { vec_len seats ≡ J.opening.seats }
@@ -277,7 +277,7 @@ impl<J: Naming> Shared<J> {
         locked.into_book()
     }
 
-    /// Ends the sharing in the same way, with one receipt: it stands in the journal.
+    /// Like [`Shared::close`], but with one receipt, which stands in the journal.
     pub fn close_with(self, seats: Vec<Seat<J>>, receipt: &Entry) -> Book
         requires numbers { AreNumbered seats.items }
         requires all { vec_len seats ≡ J.opening.seats }

@@ -1,24 +1,32 @@
-//! The tie of receipts to entries: a table of one word, which never changes, whose views are the lists of the seats and
-//! the journal since the opening. The pass that sees the journal lies under the lock. In a call the caller's badge
-//! comes to it, so that one view holds both lists; the entry is appended to both; and the badge goes back.
+//! The tie of receipts to entries: a table of one word, which never changes, whose views are lists of entries.
+//! - The keeper is the view that has the journal since the opening. It lies under the book's lock.
+//! - Each seat has a view with its own entries, its badge.
+//!
+//! In a call the badge is joined to the keeper's view: the seat is the keeper's visitor. The entry is appended to both
+//! lists, and the two views are parted again.
 use atomic_table::{Join, Play, Split, Table, TableRule};
 use chr_acts::Entry;
 use std::alloc::Global;
 use std::collections::LinkedList;
 use std::marker::{Brand, PhantomData};
 
-/// What a view of the table knows: the keeper's all entries, and how many seats were dealt; a seat's its number and its
-/// own entries. The keeper with a visitor knows both. No value of it is made.
+/// What a view of the table knows. Only specifications use its values: none is made.
 pub struct Known {
+    /// Whether it is the keeper's. Else `all` and `dealt` say nothing.
     pub keeps: bool,
+    /// The journal since the opening.
     pub all: LinkedList<Entry>,
+    /// How many seats were dealt.
     pub dealt: u32,
+    /// Whether it is a seat's, or the keeper's with a visitor. Else `number` and `mine` say nothing.
     pub sits: bool,
+    /// The number of the seat.
     pub number: u32,
+    /// The entries of the seat, in their order.
     pub mine: LinkedList<Entry>,
 }
 
-/// One journal, of which the keeper knows all and each seat its own part.
+/// The rule of the table: there is one journal, of which the keeper has all and each seat its own part.
 pub struct TieRule;
 
 impl TableRule<u8, Known, ()> for TieRule {
@@ -30,7 +38,7 @@ impl TableRule<u8, Known, ()> for TieRule {
     ghost first = { λ _. keeper [] 0 };
 }
 
-/// A seat is dealt, with the next number and no entries.
+/// The step by which the keeper deals a seat, with the next number and no entries.
 pub struct Deal;
 
 impl Split<Known> for Deal {
@@ -41,7 +49,7 @@ impl Split<Known> for Deal {
     ghost right = { newcomer };
 }
 
-/// The caller's list comes to the keeper, and goes back.
+/// The steps of a call: a seat's view is joined to the keeper's, and parted from it again.
 pub struct Visit;
 
 impl Join<Known> for Visit {
@@ -73,7 +81,7 @@ impl EntryName for Brand {
     ghost entry = { no_entry };
 }
 
-/// The entry is appended to both lists of the keeper with a visitor.
+/// The step that appends the entry to both lists of the keeper with a visitor.
 pub struct Append<E: EntryName>(PhantomData<E>);
 
 impl<E: EntryName> Play<u8, Known> for Append<E> {
@@ -82,7 +90,7 @@ impl<E: EntryName> Play<u8, Known> for Append<E> {
     ghost then = { λ step before found after. Appends E.entry before after };
 }
 
-/// The visitor's list is compared with all entries.
+/// The step that compares the visitor's list with the journal.
 pub struct Check;
 
 impl Play<u8, Known> for Check {
@@ -94,5 +102,5 @@ impl Play<u8, Known> for Check {
 /// The table of the tie. Its word is never read for its value.
 pub type TieTable = Table<u8, Known, (), TieRule, Global>;
 
-/// The view of the keeper, or of a seat that is not at rest.
+/// A view of the table: the keeper's, with a visitor or without, or that of a seat in a call.
 pub type Pass = atomic_table::Seat<u8, Known>;
