@@ -29,12 +29,12 @@ leads_on p before s (x ∷ xs) u e t h number does = (
       (number ∙ ap (λ l. count_of e.seat l + 1) (sym (append_assoc before (x ∷ []) xs))) does,
 )
 
--- one more event, with its seat's next number
+-- a legal journal stays so with one more event, under its seat's next number
 pub legal_on : (p : Program) (es : List Entry) (s : Replica) (e : Entry) (t : Replica) → IsLegal p es s → e.number
     ≡ count_of e.seat es + 1 → Does p s e.act e.reply t → IsLegal p (es ++ e ∷ []) t
 legal_on p es s e t legal number does = leads_on p [] first es s e t legal number does
 
--- a call that is entered
+-- a legal journal stays so where a call is entered
 pub legal_after : (p : Program) (es fs : List Entry) (s t : Replica) (chair : ℕ) (asked : Act)
     → Enters p es s chair asked fs t → IsLegal p es s → IsLegal p fs t
 legal_after p es fs s t chair asked h legal =
@@ -42,7 +42,7 @@ legal_after p es fs s t chair asked h legal =
     (legal_on p es s h.entry t legal (subst (λ k. h.entry.number ≡ count_of k es + 1) (sym h.seat) h.number)
     (subst (λ a. Does p s a h.entry.reply t) (sym h.act) h.does))
 
--- a call whose entry is known
+-- a legal journal stays so where a call is entered whose entry is known
 pub legal_after_entry : (p : Program) (es fs : List Entry) (s t : Replica) (chair : ℕ) (asked : Act) (e : Entry)
     → fs ≡ es ++ e ∷ [] → (e.seat ≡ chair) × (e.number ≡ count_of chair es + 1) × (e.act ≡ asked)
     → Does p s asked e.reply t → IsLegal p es s → IsLegal p fs t
@@ -57,7 +57,7 @@ legal_after_entry p es fs s t chair asked e after is does legal =
           after;
     } legal
 
--- a call that is entered, or of which nothing has come
+-- a legal journal stays so where a call is entered, or nothing has come of it
 pub legal_either : {E : Type 0} (b c : Held) (es fs : List Entry) (chair : ℕ) (asked : Act) (r : Result Entry E)
     → c.accepted ≡ b.accepted → IfOk r (λ e. fs ≡ es ++ e ∷ [])
     → IfOk r (λ e. (e.seat ≡ chair) × (e.number ≡ count_of chair es + 1) × (e.act ≡ asked))

@@ -4,12 +4,12 @@ use Rattle.chr_base.specs.declared.limits.TheConstants.{MAX_PARTS}
 use Rattle.chr_acts.specs.declared.act.Act.{Act}
 use Rattle.chr_acts.specs.declared.act.Act.TheVariants as act
 
--- the number of parts that it asks for, if any, is within the limit
+-- the number of parts that the act asks for, if any, is within the limit
 abbrev pub FitsAct : Act → Type 0
 FitsAct (act.TakeParts n) = (1 ≤ n) × (n ≤ MAX_PARTS)
 FitsAct _ = ⊤
 
--- it does not take the pool in parts
+-- the act does not take the pool in parts
 abbrev pub TakesNoParts : Act → Type 0
 TakesNoParts (act.TakeParts n) = ⊥
 TakesNoParts _ = ⊤

@@ -14,8 +14,8 @@ pub record Kept : Type 0 where
   pub board : Held
   pub entries : List Entry
 
--- The replica s of the program p does what the seat (chair) asked and is t afterwards, and just this is entered, with
--- the reply, under the seat's next number: es are the entries before, and fs those after.
+-- The replica s of the program p does the act that was asked and is t afterwards. Just this is entered, with the reply,
+-- under the next number of the seat, which is called `chair`: es are the entries before, and fs those after.
 pub record Enters (p : Program) (es : List Entry) (s : Replica) (chair : ℕ) (asked : Act) (fs : List Entry)
     (t : Replica) : Type 0 where
   pub entry : Entry

@@ -9,8 +9,8 @@ use Rattle.chr_acts.specs.Events.{Does}
 abbrev pub count_of : ℕ → List Entry → ℕ
 count_of seat entries = count_by (λ (e : Entry). e.seat == seat) entries
 
--- After the entries before, those that follow lead from s to t: each is an event of a replica of the program p, and has
--- its seat's next number.
+-- Each entry of a list is an event of a replica of the program p, under its seat's next number, and all of them lead
+-- from s to t, where `before` are the entries before the list.
 abbrev pub Leads : Program → List Entry → Replica → List Entry → Replica → Type 0
 Leads p before s [] t = t ≡ s
 Leads p before s (e ∷ es) t =

@@ -20,7 +20,7 @@ pub enum Act {
     Step(Step),
     /// Leases these atoms of the pool out.
     Take(Bag),
-    /// Leases the whole pool out, in so many parts.
+    /// Leases the whole pool out, in this many parts.
     TakeParts(u32),
     /// Puts back what came of a lease.
     Put(Done),
@@ -41,7 +41,7 @@ pub enum Act {
 impl Act {
     ghost use Rattle.chr_acts.specs.Acts.{FitsAct};
 
-    /// Whether the number of parts that it asks for, if any, is 1 to [`MAX_PARTS`]. It takes no memory.
+    /// Whether the number of parts that the act asks for, if any, is 1 to [`MAX_PARTS`]. It takes no memory.
     pub fn fits(&self) -> bool
         ensures { IsTrue result ↔ FitsAct self.now }
     {

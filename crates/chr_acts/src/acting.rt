@@ -142,7 +142,7 @@ pub fn show(alloc: Global, board: &Board) -> Result<Reply, AllocError>
     }
 }
 
-/// The same, where several threads put the pool in order.
+/// Like [`show`], but several threads put the pool in order.
 ///
 /// # Errors
 /// Where memory is refused.
@@ -185,8 +185,8 @@ fn least_lease(board: &Board) -> Reply
     Reply::LeastLease(board.least_lease())
 }
 
-/// Carries an act out on a board. A refusal is a reply, and leaves the board as it was; so is a `settle` that was
-/// stopped, whose steps stand.
+/// Carries an act out on a board. A refusal is a reply, and leaves the board as it was. Of a `settle` that was stopped
+/// the reply says so, and its steps stand.
 ///
 /// # Errors
 /// Where memory is refused to any act but a `settle`. The board is as it was.
@@ -213,7 +213,7 @@ pub fn carry_out(alloc: Global, board: &mut Board, act: &Act) -> Result<Reply, A
     }
 }
 
-/// A reply that takes no memory, with an equal one.
+/// Two equal replies, of one that takes no memory.
 fn with_copy(reply: Reply) -> (Reply, Reply)
     requires { TakesNoMemory reply }
     ensures reply { result.0 ≡ reply }
@@ -223,7 +223,7 @@ fn with_copy(reply: Reply) -> (Reply, Reply)
     (reply, copy)
 }
 
-/// A reply with an equal one.
+/// Two equal replies, of which one is a copy.
 fn with_new_copy(alloc: Global, reply: Reply) -> Result<(Reply, Reply), AllocError>
     ensures reply { IfOk result (λ replies. replies.0 ≡ reply) }
     ensures copy { IfOk result (λ replies. replies.1 ≡ reply) }
@@ -257,7 +257,7 @@ fn take_with_copy(
     }
 }
 
-/// Carries an act out on a board, as [`carry_out`] does, and answers two equal replies. The second is made before the
+/// Carries an act out on a board, like [`carry_out`], but answers two equal replies. The second is made before the
 /// board changes, or where it does not change.
 ///
 /// # Errors

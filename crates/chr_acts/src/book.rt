@@ -18,7 +18,7 @@ use std::alloc::{AllocError, Global};
 use std::marker::Model;
 use std::sync::Arc;
 
-/// Memory was refused to a call, which is handed back.
+/// The act of a call to which memory was refused, which is handed back.
 #[derive(Drop)]
 pub struct CallFault {
     pub act: Act,
@@ -61,8 +61,8 @@ impl Book {
         })
     }
 
-    /// What its type keeps: the journal is legal, and leads to the board's replica. It does nothing but look into the
-    /// book, for its contract.
+    /// What the book's type keeps: the journal is legal, and leads to the board's replica. The call computes nothing:
+    /// its contract says so of the book.
     pub fn is_legal(&self)
         ensures { IsLegal (program_on self.now.board) self.now.entries self.now.board.replica }
     {
@@ -114,8 +114,8 @@ impl Book {
         }
     }
 
-    /// Does the same with an act that does not take the pool in parts, and answers an equal copy of its entry, which is
-    /// made before the board changes.
+    /// Like [`Book::call`], but for an act that does not take the pool in parts, and answers an equal copy of the
+    /// entry, which is made before the board changes.
     ///
     /// # Errors
     /// Where memory is refused to any act but a `settle`, or to the entry or its copy. The act is handed back, and the

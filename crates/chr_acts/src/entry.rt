@@ -18,10 +18,13 @@ use std::marker::Model;
 /// What a seat asked of a replica, and what was answered.
 #[derive(Drop)]
 pub struct Entry {
+    /// Who asked.
     pub seat: u32,
-    /// The seat's entries have the numbers 1, 2 and so on.
+    /// The place of this entry among those of the seat, from 1 on.
     pub number: u64,
+    /// What was asked.
     pub act: Act,
+    /// What was answered.
     pub reply: Reply,
 }
 
@@ -62,7 +65,7 @@ impl Model for Journal {
 }
 
 impl Journal {
-    /// The empty one.
+    /// The empty journal.
     pub fn new(alloc: Global) -> Journal
         ensures { result ≡ [] }
     {
@@ -86,7 +89,7 @@ impl Journal {
         self.entries.get(place)
     }
 
-    /// The number that the next entry of a seat has. It takes no memory, and no longer where there are more entries.
+    /// The number that the next entry of a seat has. It takes no memory, and as long however many entries there are.
     pub fn next_number(&self, seat: u32) -> u64
         ensures { result ≡ count_of seat self.now + 1 }
     {
@@ -132,7 +135,7 @@ impl Journal {
         Ok(())
     }
 
-    /// Does the same, and answers an equal copy of the entry.
+    /// Like [`Journal::enter`], but answers an equal copy of the entry.
     ///
     /// # Errors
     /// Where memory is refused, with the act. Nothing is entered, and the board is as it was.

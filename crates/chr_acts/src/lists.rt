@@ -72,14 +72,14 @@ impl OpList {
         OpList { ops }
     }
 
-    /// All of them, in order.
+    /// All operations, in order.
     pub fn as_slice(&self) -> &[Op]
         ensures { result.now ≡ self.now }
     {
         &self.ops
     }
 
-    /// All of them, in order.
+    /// All operations, in order.
     pub fn into_vec(self) -> Vec<Op>
         ensures { result.items ≡ self }
     {
@@ -104,14 +104,14 @@ impl LeaseList {
         LeaseList { leases }
     }
 
-    /// All of them, in order.
+    /// All leases, in order.
     pub fn as_slice(&self) -> &[Lease]
         ensures { result.now ≡ self.now }
     {
         &self.leases
     }
 
-    /// All of them, in order.
+    /// All leases, in order.
     pub fn into_vec(self) -> Vec<Lease>
         ensures { result.items ≡ self }
     {

@@ -25,11 +25,11 @@ pub enum Reply {
     WasPut,
     /// The part is back in the pool.
     Recalled,
-    /// The pool is at rest, after so many steps.
+    /// The pool is at rest, after this many steps.
     Settled(u64),
-    /// Memory was refused after so many steps, which stand.
+    /// Memory was refused after this many steps, which stand.
     Stopped(u64),
-    /// The pool, where it has settled.
+    /// The pool, which has settled.
     Shown(Bag),
     /// The ids of the operations.
     Summed(Summary),
@@ -37,14 +37,14 @@ pub enum Reply {
     Lacked(OpList),
     /// The least lease number that is out, if any is.
     LeastLease(Option<u64>),
-    /// Nothing has changed.
+    /// The act was refused, and nothing has changed.
     Refused(Refusal),
 }
 
 impl Reply {
     ghost use Rattle.chr_acts.specs.Replies.{TakesNoMemory};
 
-    /// The reply of a board that refuses this. It takes no memory.
+    /// The reply of a board that refuses a call for this reason. It takes no memory.
     ///
     /// # Errors
     /// Where memory is what was refused: that is no reply.

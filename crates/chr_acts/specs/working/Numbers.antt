@@ -15,6 +15,6 @@ last_in numbers seat = unwrap_or (get nat_cmp numbers.last seat) 0
 abbrev pub HasRoom : Numbers → ℕ → Type 0
 HasRoom numbers seat = IsSome (get nat_cmp numbers.last seat)
 
--- they are the last numbers of these entries
+-- the numbers are the last ones of the seats in these entries
 abbrev pub AreLast : Numbers → List Entry → Type 0
 AreLast numbers entries = (seat : ℕ) → last_in numbers seat ≡ count_of seat entries
