@@ -11,7 +11,7 @@ use Rattle.chr_acts.specs.declared.entry.Entry.{Entry}
 use Rattle.chr_acts.specs.Journals.{Leads, IsLegal, count_of}
 use Rattle.chr_journals.specs.Receipts.{is_of, IsPlaced}
 
--- each has its seat's next number
+-- each entry has its seat's next number
 abbrev Numbered : List Entry → List Entry → Type 0
 Numbered before [] = Unit {0}
 Numbered before (e ∷ es) = (e.number ≡ count_of e.seat before + 1) × Numbered (before ++ e ∷ []) es
@@ -29,7 +29,7 @@ counts_own : (before : List Entry) (e : Entry) → count_of e.seat (before ++ e 
 counts_own before e = counts e.seat before e
     ∙ ap (λ b. count_of e.seat before + cond b 1 0) (eq-eqb e.seat e.seat refl)
 
--- a number is past those that its seat had before
+-- the number of an entry is past those that its seat had before
 later : (before es : List Entry) → Numbered before es → (k : ℕ) (d : Entry) → k < length es
     → count_of (get_or es k d).seat before + 1 ≤ (get_or es k d).number
 later before [] h k d lt = absurd (omega arith)
@@ -38,7 +38,7 @@ later before (e ∷ es) h (suc k) d lt =
     let x = get_or es k d in
     omega (arith, later (before ++ e ∷ []) es h.1 k d (omega arith), counts x.seat before e)
 
--- so the numbers of a seat rise
+-- the numbers of a seat rise
 rises : (before es : List Entry) → Numbered before es → (j k : ℕ) (d : Entry) → j < k → k < length es
     → (get_or es j d).seat ≡ (get_or es k d).seat → (get_or es j d).number < (get_or es k d).number
 rises before [] h j k d lt inside same = absurd (omega arith)

@@ -57,7 +57,7 @@ does_values p s (act.Lacks summary) (reply.Lacked ops) t h v = same_values s t (
 does_values p s act.LeastLease (reply.LeastLease number) t h v = same_values s t (ap (λ r. r.operations) h.1) v
 does_values p s _ _ t h v = absurd h
 
--- of the replica at the beginning of entries, where that at their end has
+-- where the replica at the end of entries tells 64-bit values, that at their beginning does
 pub leads_values : (p : Program) (before : List Entry) (s : Replica) (es : List Entry) (t : Replica)
     → Leads p before s es t → TellsValues t → TellsValues s
 leads_values p before s [] t h v = subst TellsValues h v

@@ -19,7 +19,7 @@ use Rattle.chr_acts.specs.declared.reply.Reply.{Reply}
 use Rattle.chr_acts.specs.declared.reply.Reply.TheVariants as reply
 use Rattle.chr_acts.specs.Journals.{IsLegal}
 
--- the operations after an act that was answered so
+-- the operations after an act, by its reply
 abbrev pub held_by : Operations → Act → Reply → Operations
 held_by m a (reply.Refused r) = m
 held_by m (act.Tell op) (reply.Told added.New) = map.insert m op.0 op.1
@@ -53,13 +53,15 @@ ShowsAgree entries others =
 abbrev pub JournalsHold : Type 0
 JournalsHold = (p : Program) (es : List Entry) (s : Replica) → IsLegal p es s → s.operations ≡ held_in es
 
--- In the journal of a confluent program, whose operations have 64-bit values, answers are shown.
+-- In the journal of a confluent program, whose operations have 64-bit values, each store that was shown is the one
+-- normal form of the operations that were held then.
 abbrev pub AnswersAreShown : Type 0
 AnswersAreShown =
     (p : Program) (es : List Entry) (s : Replica) → Confluent (rules_of p)
     → IsLegal p es s → HasValues (told_store s.operations) → ShowsAnswers p es
 
--- And in the journals of two programs that are the same they are equal.
+-- Stores that were shown in the journals of two programs that are the same, one of which is confluent, are equal where
+-- the same operations were held.
 abbrev pub AnswersAgree : Type 0
 AnswersAgree =
     (p q : Program) (es fs : List Entry) (s t : Replica) → AreSame p q → Confluent (rules_of p)

@@ -15,11 +15,11 @@ use Rattle.chr_journals.specs.Laws.{held_in}
 abbrev pub is_of : Entry → Entry → Bool
 is_of receipt e = (e.seat == receipt.seat) && (e.number == receipt.number)
 
--- the entries before the first that has
+-- the entries before the first that has the receipt's seat and number
 abbrev pub before : Entry → List Entry → List Entry
 before receipt entries = before_first (is_of receipt) entries
 
--- the receipt is the entry behind those
+-- the receipt is the first entry that has its seat and number
 abbrev pub IsPlaced : List Entry → Entry → Type 0
 IsPlaced entries receipt = (after : List Entry) × (entries ≡ before receipt entries ++ receipt ∷ after)
 
@@ -32,6 +32,6 @@ abbrev pub store_in : Reply → Option Store
 store_in (reply.Shown bag) = Some bag
 store_in _ = None
 
--- the store is the one normal form of those operations
+-- the store is the one normal form of the operations that are held at the receipt's place
 abbrev pub IsAnswerAt : Program → List Entry → Entry → Store → Type 0
 IsAnswerAt p entries receipt store = IsOnlyNormalForm (rules_of p) (told_store (held_at receipt entries)) store

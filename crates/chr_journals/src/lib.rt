@@ -1,6 +1,6 @@
 //! What journals tell: which operations are held at each place, and that a store that is shown there is the one normal
-//! form of them. Hardly anything here computes: each function's contract is a law of journals, or what it says of given
-//! books, and of receipts of theirs.
+//! form of them. Hardly anything here computes: the contract of each function is a law of journals, or what such a law
+//! says of given books and their receipts.
 #![tactic(auto)]
 
 mod books;
