@@ -53,7 +53,7 @@ impl<J: Naming> Shared<J> {
             .take_parts(alloc, &self.table, seat, parts)
     }
 
-    /// Puts what came of a part that was leased out under `number`.
+    /// Puts what came of the part that was leased out under `number`. An error is answered where it came of another part.
     fn put_back<R: Wait>(
         &self,
         rt: &R,
