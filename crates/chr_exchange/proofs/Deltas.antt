@@ -19,7 +19,7 @@ spelt_lent ds xs os is = twice xs ∙ ap (map (spelt ds)) is
     twice [] = refl
     twice (y ∷ ys) = ap (λ l. spelt ds y.now ∷ l) (twice ys)
 
--- a delta of version 2
+-- the text of a delta of version 2 is written from its parts
 pub delta_2_written : (os ps : List NamedOperation) (none start middle new : List ℕ) → ps ≡ os → none ≡ []
     → start ≡ none ++ codes "[2," → middle ≡ start ++ compact_text (grouped_data (λ o. o.id.origin) numbered_data ps)
     → new ≡ middle ++ codes "]"

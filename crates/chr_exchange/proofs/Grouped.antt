@@ -66,7 +66,7 @@ module _ {A : Type 0} (key : A → ℕ) (written : A → Data) where
   opened_case o true k x g gs P h = h g.1 gs
   opened_case o false k x g gs P h = h [] (g ∷ gs)
 
-  -- the groups begin with one that begins with the item
+  -- what holds of groups of which the first begins with the item holds of these groups
   begun : (k : ℕ) (x : A) (gs : List (ℕ × List A)) (P : List (ℕ × List A) → Type 0)
       → ((xs : List A) (hs : List (ℕ × List A)) → P ((k, x ∷ xs) ∷ hs)) → P (before_groups k x gs)
   begun k x [] P h = h [] []
@@ -102,7 +102,7 @@ module _ {A : Type 0} (key : A → ℕ) (written : A → Data) where
       ∙ ap (λ l. opening None (key x) ++ l) (first_item (key x) x (groups key xs))
       ∙ opened_first (key x) x (groups key xs)
 
-  -- a text that has all items and then its end
+  -- a text that has all items ends as it is to
   pub grouped_whole : (xs : List A) (i : ℕ) (last : Option ℕ) (old out new : List ℕ) → length xs ≤ i
       → out ++ grouped_from key (λ x. compact_text (written x)) last (drop i xs) ≡ old
       ++ grouped_from key (λ x. compact_text (written x)) None xs → new ≡ out ++ closing last
@@ -111,7 +111,7 @@ module _ {A : Type 0} (key : A → ℕ) (written : A → Data) where
       ended ∙ ap (λ l. out ++ grouped_from key (λ x. compact_text (written x)) last l) (sym (drop_all i xs past))
       ∙ so_far ∙ ap (λ l. old ++ l) (grouped xs)
 
--- the text of items that are seen as others
+-- the text of items is that of what they are seen as
 seen : {A B : Type 0} (key : B → ℕ) (text : B → List ℕ) (view : A → B) (last : Option ℕ) (xs : List A)
     → grouped_from (λ x. key (view x)) (λ x. text (view x)) last xs ≡ grouped_from key text last (map view xs)
 seen key text view last [] = refl

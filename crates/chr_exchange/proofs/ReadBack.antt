@@ -84,7 +84,7 @@ as_many ds s = sym (size_store_of (in_print_order ds s)) ∙ ap size (reordered 
 
 -- ---- a declared atom is the one of its name and arguments
 
--- that of an earlier declaration is another
+-- a declaration that stands before another has another name or number of arguments
 other_name : (ds : List Declaration) (d : Declaration) (i n : ℕ) → list_any (declares d.name d.arity) ds ≡ false
     → takes (slice_get ds i) n ≡ true → declares (name_at ds i) n d ≡ false
 other_name [] d i n h t = absurd (true≢false (sym t))

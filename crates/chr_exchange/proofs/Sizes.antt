@@ -11,7 +11,7 @@ use Rattle.chr_json.specs.Deltas.{NamedOperation}
 use Rattle.chr_ops.specs.Operations.{Operation, HasOperationSize}
 use Rattle.chr_exchange.specs.Names.{named_atom, named_atoms, declared_operation}
 
--- it has the size of one
+-- operations of 1 to 64 spelt atoms have the size of an operation
 spelt_size : (ds : List Declaration) (ws : List NamedAtom) (xs : List Atom) → Some xs ≡ named_atoms ds ws
     → IsOperationLength (length ws) → HasOperationSize (store_of xs)
 spelt_size ds ws xs e h =
@@ -23,7 +23,7 @@ some_of : (got : Option Operation) (o : Operation) → IsSome got → IfSome got
 some_of None o there is = absurd (let f : ◌≡◌ {A = Bool} false true = there in cc)
 some_of (Some p) o there is = ap Some is
 
--- what is made of their bag is the operation that is spelt so
+-- what is made of the bag of the spelt atoms is the operation that is spelt
 pub made_of : (ds : List Declaration) (o : NamedOperation) (xs : List Atom) (b : Store) (got : Option Operation)
     → Some xs ≡ named_atoms ds o.atoms → IsOperationLength (length o.atoms) → b ≡ store_of xs
     → (HasOperationSize b → IsSome got) → IfSome got (λ p. p ≡ (o.id, b)) → got ≡ declared_operation ds o

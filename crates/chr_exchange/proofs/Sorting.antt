@@ -38,7 +38,7 @@ same = eq_by_cmp id_cmp
 abbrev IsFoundIn : List Operation → Operation → Type 0
 IsFoundIn es e = find id_cmp e.0 es ≡ Some e.1
 
--- each stays found behind an operation with another id
+-- each operation that is found stays so behind one with another id
 still_found : (e : Operation) (es fs : List Operation) → AllByRecursion (λ q. same e.0 q ≡ false) (keys_of fs)
     → AllByRecursion (IsFoundIn es) fs → AllByRecursion (IsFoundIn (e ∷ es)) fs
 still_found e es [] apart h = tt
@@ -125,7 +125,7 @@ strictly (e ∷ es) h d =
       strictly es p.1 (IsDistinct-tail same e.0 (keys_of es) d),
     )
 
--- ---- the same of operations that are lent
+-- ---- operations that are lent
 
 abbrev lent_by_id : Bor Operation → Bor Operation → Ordering
 lent_by_id x y = id_cmp x.now.0 y.now.0

@@ -79,7 +79,7 @@ arguments_text (negsuc n ∷ zs) =
     ap (λ l. 44 ∷ l) (append_assoc (signed_decimal (negsuc n)) (flat_map (λ z. 44 ∷ signed_decimal z) zs) (93 ∷ [])
     ∙ ap (λ l. signed_decimal (negsuc n) ++ l) (arguments_text zs))
 
--- an atom, from the text before it
+-- the text of an atom is written from its parts
 pub atom_pushed : (p : Program) (a : Atom) (old bracket named quoted more new : List ℕ)
     → bracket ≡ old ++ codes "[\"" → named ≡ bracket ++ name_of (declarations p) a → quoted ≡ named ++ codes "\""
     → more ≡ quoted ++ flat_map (λ z. 44 ∷ signed_decimal z) a.args.items → new ≡ more ++ codes "]"

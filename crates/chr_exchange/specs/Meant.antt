@@ -23,7 +23,7 @@ abbrev pub operation_meant : List Declaration → Option NamedOperation → Resu
 operation_meant ds None = Err fault.Shape
 operation_meant ds (Some o) = ok_or (declared_operation ds o) fault.UnknownSymbol
 
--- the same of operations: the shape of all of them is looked at first
+-- what operations mean: the shape of all of them is looked at first, and then the program's declarations
 abbrev pub operations_meant : List Declaration → Option (List NamedOperation) → Result (List Operation) MessageFault
 operations_meant ds None = Err fault.Shape
 operations_meant ds (Some os) = ok_or (declared_operations ds os) fault.UnknownSymbol
@@ -32,7 +32,7 @@ operations_meant ds (Some os) = ok_or (declared_operations ds os) fault.UnknownS
 abbrev pub delta_meant : List Declaration → Data → Result (List Operation) MessageFault
 delta_meant ds d = operations_meant ds (delta_of d)
 
--- what f says of a value, where there is one
+-- what f says of the JSON value of a text, if it is one
 abbrev pub in_value : {A : Type 0} → (Data → Result A MessageFault) → Option Data → Result A MessageFault
 in_value f None = Err fault.BadJson
 in_value f (Some d) = f d
@@ -43,19 +43,19 @@ summary_in text = in_value summary_meant (json_in text)
 abbrev pub delta_in : List Declaration → List ℕ → Result (List Operation) MessageFault
 delta_in ds text = in_value (delta_meant ds) (json_in text)
 
--- a refusal for want of memory says nothing, and every other is the message's own
+-- `Memory` says nothing of the message; every other refusal is that of what is meant
 abbrev pub Fails : {A : Type 0} → MessageFault → Result A MessageFault → Type 0
 Fails fault.BadJson meant = meant ≡ Err fault.BadJson
 Fails fault.Shape meant = meant ≡ Err fault.Shape
 Fails fault.UnknownSymbol meant = meant ≡ Err fault.UnknownSymbol
 Fails fault.Memory meant = ⊤
 
--- the answer, seen as view does, is what is meant
+-- the answer, seen by `view`, is what is meant
 abbrev pub Gives : {X A : Type 0} → (X → A) → Result X MessageFault → Result A MessageFault → Type 0
 Gives view (Ok x) meant = meant ≡ Ok (view x)
 Gives view (Err e) meant = Fails e meant
 
--- the summary covers what the ranges cover that are meant
+-- the summary covers the ids that the meant ranges cover
 abbrev pub GivesCover : Result (List IdRange) MessageFault → Result (List IdRange) MessageFault → Type 0
 GivesCover (Ok s) meant = (rs : List IdRange) × (meant ≡ Ok rs) × ((id : OpId) → covers s id ≡ covers rs id)
 GivesCover (Err e) meant = Fails e meant

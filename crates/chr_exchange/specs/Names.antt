@@ -16,10 +16,10 @@ named_atom ds w = declared_atom ds w.name w.args
 abbrev pub named_atoms : List Declaration → List NamedAtom → Option (List Atom)
 named_atoms ds ws = each (named_atom ds) ws
 
--- the operation that is spelt so, where the program declares its atoms
+-- the operation that is spelt, where the program declares its atoms
 abbrev pub declared_operation : List Declaration → NamedOperation → Option Operation
 declared_operation ds o = option_map (λ atoms. (o.id, store_of atoms)) (named_atoms ds o.atoms)
 
--- the operations, where the program declares the atoms of each
+-- the operations that are spelt, where the program declares the atoms of each
 abbrev pub declared_operations : List Declaration → List NamedOperation → Option (List Operation)
 declared_operations ds os = each (declared_operation ds) os

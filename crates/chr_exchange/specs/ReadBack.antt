@@ -17,7 +17,8 @@ abbrev pub SummaryTextsAreMeant : Type 0
 SummaryTextsAreMeant =
     (rs : List IdRange) → AllByRecursion IsRangeWithinLimits rs → summary_in (summary_text rs) ≡ Ok rs
 
--- the origin has 32 bits and the number 64, the bag is an operation's, and the program declares its atoms
+-- the operation's origin has 32 bits and its number 64, its bag is one that an operation may have, and the program
+-- declares its atoms
 pub record IsDeclaredOperation (ds : List Declaration) (o : Operation) : Type 0 where
   pub origin : o.0.origin < 2 ^ 32
   pub number : o.0.number < 2 ^ 64
@@ -30,7 +31,7 @@ DeltaTextsAreRead =
     (p : Program) (m : Operations) → AllByRecursion (IsDeclaredOperation (declarations p)) (finite.entries m)
     → delta_in (declarations p) (delta_text (declarations p) m) ≡ Ok (finite.entries m)
 
--- and so does that of version 1
+-- the text of a delta of version 1 means the operations of its set, in the order of ids
 abbrev pub Delta1TextsAreMeant : Type 0
 Delta1TextsAreMeant =
     (p : Program) (m : Operations) → AllByRecursion (IsDeclaredOperation (declarations p)) (finite.entries m)

@@ -11,7 +11,7 @@ fault_number fault.Shape = 31
 fault_number fault.UnknownSymbol = 32
 fault_number fault.Memory = 99
 
--- a refusal of the reader of JSON, as one of a message
+-- the refusal of a message for one of the reader of JSON
 abbrev pub message_fault : LineFault → MessageFault
 message_fault line.Memory = fault.Memory
 message_fault line.BadLine = fault.BadJson

@@ -15,7 +15,7 @@ use Rattle.chr_ops.specs.Ids.{id_cmp}
 use Rattle.chr_ops.specs.Operations.{Operation, Operations}
 use Rattle.chr_ops.specs.Summaries.{lacking}
 
--- the text of a summary with these ranges: origins and ranges as they stand there
+-- the text of a summary with these ranges, in the order in which they stand
 abbrev pub summary_text : List IdRange → List ℕ
 summary_text rs = compact_text (summary_data rs)
 
@@ -30,7 +30,7 @@ spelt ds o = record { id = o.0; atoms = map (spelt_atom ds) (in_print_order ds o
 abbrev pub HaveDifferentIds : List Operation → Type 0
 HaveDifferentIds os = IsDistinct (eq_by_cmp id_cmp) (map (λ o. o.0) os)
 
--- so it is with what a set holds beyond some ranges
+-- what a set holds beyond some ranges has different ids
 abbrev pub LackedIdsDiffer : Type 0
 LackedIdsDiffer = (m : Operations) (rs : List IdRange) → HaveDifferentIds (lacking m rs)
 

@@ -14,19 +14,19 @@ pub enum MessageFault {
     /// The text is no JSON value.
     #[error("the text is no JSON value")]
     BadJson,
-    /// The JSON value is no such message.
+    /// The JSON value is not of the shape of the message that was to be read.
     #[error("the JSON value has another shape")]
     Shape,
-    /// The program doesn't declare an atom's name with as many arguments.
+    /// The program doesn't declare an atom's name with the number of its arguments.
     #[error("an atom is not declared")]
     UnknownSymbol,
-    /// No memory was left. It says nothing of the message.
+    /// Memory was refused. It says nothing of the message.
     #[error("out of memory")]
     Memory,
 }
 
 impl MessageFault {
-    /// The number under which it is answered.
+    /// The number under which the fault is answered.
     pub fn number(self) -> u8
         ensures { result ≡ fault_number self }
     {

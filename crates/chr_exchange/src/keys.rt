@@ -1,8 +1,9 @@
 //! Atoms of an operation are put in order by short keys, before they become a multiset.
 //!
-//! A multiset puts its atoms in order by whole atoms, and only walks over those that come so. Here a number of 64 bits
-//! stands for an atom: its symbol and its arguments, each in as many bits as tell the values of the operation apart, as
-//! far as there is room, and then its place. What such keys can't tell apart is left to the multiset.
+//! A multiset sorts its atoms by comparing whole atoms, and only walks over them where they are already in order. Here
+//! a key of 64 bits stands for an atom: its symbol and its arguments, each in as many bits as tell the values of the
+//! operation apart, as far as there is room, and then its place. Atoms that such keys can't tell apart are left to the
+//! multiset to sort.
 ghost use Rattle.std.specs.Prelude.{◌≡◌, ◌<◌, ◌≤◌, length, vec_len};
 ghost use Rattle.chr_base.specs.Stores.{store_of};
 ghost use Rattle.chr_exchange.specs.declared.keys.TheConstants.{VALUE_BITS};
@@ -19,7 +20,7 @@ const LAST_PLACE: u64 = 63;
 /// The bits of a key that say the values of its atom.
 const VALUE_BITS: u32 = 58;
 
-/// Whether an atom comes after another. The atoms of one symbol have as many arguments.
+/// Whether an atom comes after another. Atoms of one symbol have equally many arguments.
 fn is_after(left: &Atom, right: &Atom) -> bool {
     if left.symbol != right.symbol {
         return left.symbol.0 > right.symbol.0;
@@ -42,7 +43,8 @@ fn are_in_order(atoms: &[Atom]) -> bool {
     true
 }
 
-/// What stands in a column: the symbol in the first, and in each other an argument, or 0 where the atom has fewer.
+/// The value of an atom in a column: in the first the symbol, and in each other an argument, or 0 where the atom has
+/// fewer.
 fn value(atom: &Atom, column: usize) -> i64 {
     match column.checked_sub(1) {
         Some(place) => atom.args.get(place).copied().unwrap_or(0),
@@ -62,7 +64,8 @@ fn span(atoms: &[Atom], column: usize) -> (i64, u64) {
     (least, most.wrapping_sub(least).cast_unsigned())
 }
 
-/// Puts the values of a column behind those that the keys have, in so many bits at most. How many bits are left.
+/// Puts the values of a column behind those that the keys have, in at most `room` bits, and answers how many of these
+/// bits are left.
 fn push_column(keys: &mut [u64], atoms: &[Atom], column: usize, room: u32) -> u32
     requires { room ≤ VALUE_BITS }
     ensures { result ≤ VALUE_BITS }
@@ -81,7 +84,7 @@ fn push_column(keys: &mut [u64], atoms: &[Atom], column: usize, room: u32) -> u3
     room - kept
 }
 
-/// How many arguments the atom with most has.
+/// How many arguments the atom with the most has.
 fn most_arguments(atoms: &[Atom]) -> usize {
     let mut most = 0;
     for atom in atoms {
@@ -90,7 +93,7 @@ fn most_arguments(atoms: &[Atom]) -> usize {
     most
 }
 
-/// Puts all values behind one another, as far as there is room.
+/// Puts the values of all columns behind one another into the keys, as far as there is room.
 fn push_columns(keys: &mut [u64], atoms: &[Atom]) {
     let mut room = VALUE_BITS;
     for column in 0..=most_arguments(atoms) {
@@ -110,8 +113,8 @@ fn place_of(key: u64) -> usize {
     (key & LAST_PLACE) as usize
 }
 
-/// Puts an atom where its key stands, then the atom that stood there where its own key stands, and so on to the first.
-/// Their keys then say the places where they stand.
+/// Puts an atom where its key stands, then the atom that stood there where its own key stands, and so on until one
+/// comes to the first's place. Their keys then say the places where they stand.
 fn settle(atoms: &mut Vec<Atom>, keys: &mut [u64], start: usize)
     requires start { start < length keys.old }
     requires len { length keys.old ≤ vec_len atoms.old }

@@ -1,10 +1,10 @@
-//! That what is written is read back, and what is lacked may be written.
+//! The laws of messages: what is written is read back, and what is lacked may be written.
 
 ghost use Rattle.chr_exchange.specs.ReadBack.{Delta1TextsAreMeant, DeltaTextsAreRead, SummaryTextsAreMeant};
 ghost use Rattle.chr_exchange.specs.Texts.{LackedIdsDiffer};
 
-/// The text of a summary means its ranges, and the text of a delta of either version the operations of its set, where
-/// the program declares their atoms.
+/// The text of a summary means its ranges. The text of a delta, of either version, means the operations of its set,
+/// where the program declares their atoms.
 pub fn messages_are_read_back()
     ensures summaries { SummaryTextsAreMeant }
     ensures deltas { DeltaTextsAreRead }

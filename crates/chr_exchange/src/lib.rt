@@ -1,7 +1,8 @@
 //! Messages between replicas: summaries and deltas, as text.
 //!
 //! A summary says which operations a replica holds, by ranges of their ids. A delta carries operations. Both are JSON
-//! without white space. What is written is read back, and so is every other text of the same meaning.
+//! without white space. What is written is read back, and any other text of the same JSON value is read in the same
+//! way.
 #![tactic(auto)]
 
 mod fault;

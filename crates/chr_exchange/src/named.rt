@@ -14,8 +14,8 @@ use chr_json::{RawAtom, RawOp};
 use chr_ops::Op;
 use std::alloc::{AllocError, Global};
 
-/// Puts the atom of this name and these arguments at the end, and tells its symbol. None where the program doesn't
-/// declare it. It is found sooner where its symbol is the one that is near.
+/// Puts the atom of this name and these arguments at the end, and answers its symbol, or nothing where the program
+/// doesn't declare it. It is found sooner where its symbol is `near`.
 fn push_named(
     program: &Program,
     near: SymbolId,
@@ -36,7 +36,7 @@ fn push_named(
     Ok(Some(atoms[last].symbol))
 }
 
-/// The atoms of these names and arguments. None where the program doesn't declare one of them.
+/// The atoms of these names and arguments, or nothing where the program doesn't declare one of them.
 fn named_atoms(
     alloc: Global,
     program: &Program,
@@ -57,8 +57,8 @@ fn named_atoms(
     Ok(Some(atoms))
 }
 
-/// The operation that is spelt so, which has 1 to 64 atoms, ready to be shared. None where the program doesn't declare
-/// one of them.
+/// The operation of 1 to 64 atoms that is spelt in these words, ready to be shared, or nothing where the program
+/// doesn't declare one of the atoms.
 pub fn declared_operation(
     alloc: Global,
     program: &Program,
@@ -78,8 +78,8 @@ pub fn declared_operation(
     }
 }
 
-/// The operations that are spelt so, each of 1 to 64 atoms, in their order. None where the program doesn't declare an
-/// atom of one of them.
+/// The operations that are spelt in these words, each of 1 to 64 atoms, in their order, or nothing where the program
+/// doesn't declare an atom of one of them.
 pub fn declared_operations(
     alloc: Global,
     program: &Program,

@@ -14,12 +14,13 @@ use chr_ops::{Op, Summary};
 use serde_json::Value;
 use std::alloc::Global;
 
-/// The summary that a JSON value is: an array of `[origin,[[lo,hi],..]]`, in any order, repeated, overlapping or
-/// touching. An origin is 0 to 4294967295, and the numbers are 0 to 18446744073709551615, `lo` no greater than `hi`.
+/// The summary that a JSON value is: an array of `[origin,[[lo,hi],..]]`. Origins and ranges may come in any order,
+/// repeat, overlap or touch. An origin is 0 to 4294967295, and the numbers are 0 to 18446744073709551615, `lo` no
+/// greater than `hi`.
 ///
 /// # Errors
 ///
-/// `Shape` where it is none, and `Memory`.
+/// `Shape` where the value is no summary, and `Memory`.
 pub fn summary_of(alloc: Global, value: &Value) -> Result<Summary, MessageFault>
     ensures { GivesCover result (summary_meant (data_of value.now)) }
 {
@@ -31,7 +32,8 @@ pub fn summary_of(alloc: Global, value: &Value) -> Result<Summary, MessageFault>
 ///
 /// # Errors
 ///
-/// `Shape` where the values are none, `UnknownSymbol` where the program doesn't declare one of the atoms, and `Memory`.
+/// `Shape` where the values are not of these shapes, `UnknownSymbol` where the program doesn't declare one of the
+/// atoms, and `Memory`.
 pub fn op_of(
     alloc: Global,
     program: &Program,

@@ -16,7 +16,7 @@ use chr_base::text::in_print_order;
 use chr_ops::{IdRange, Op, Summary};
 use std::alloc::{AllocError, Global};
 
-/// Adds the two ends of a range.
+/// Adds a range as an array of its two ends.
 fn push_range(out: &mut String, range: &IdRange) -> Result<(), AllocError>
     ensures { OnOk result (string_bytes out.new ≡ string_bytes out.old ++ compact_text (range_data range.now)) }
 {
@@ -59,7 +59,7 @@ fn push_bag(alloc: Global, out: &mut String, program: &Program, op: &Op) -> Resu
     push_atoms(out, program, &atoms)
 }
 
-/// Adds an operation by its number and its atoms.
+/// Adds an operation as an array of its number and its atoms.
 fn push_numbered(
     alloc: Global,
     out: &mut String,
@@ -99,7 +99,7 @@ fn push_groups(
     Ok(())
 }
 
-/// Adds an operation by its id and its atoms.
+/// Adds an operation as an array of its id and its atoms.
 fn push_operation(
     alloc: Global,
     out: &mut String,
