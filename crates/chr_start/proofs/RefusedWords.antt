@@ -65,7 +65,7 @@ abbrev is_words : WordsFault → Type 0
 is_words (words.Words e) = ⊤
 is_words words.Memory = ⊥
 
--- it is one or the other
+-- the status is 2 or 4
 pub status_of_refused : (fault : WordsFault) (status : ℕ) → (fault ≡ words.Memory → status ≡ 4)
     → (fault ≢ words.Memory → status ≡ 2) → (status ≡ 2) ⊎ (status ≡ 4)
 status_of_refused (words.Words e) status memory other = inl (other (λ is. subst is_words is tt))

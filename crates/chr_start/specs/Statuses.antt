@@ -26,12 +26,12 @@ status_of (Ok Refused) = 1
 status_of (Err Device) = 3
 status_of (Err Memory) = 4
 
--- which verdict words ask for, and how many replicas
+-- what the words ask a verdict and a run to be by: the cases of the verdict, and the number of replicas
 abbrev pub wanted_met : List (List ℕ) → Wanted
 wanted_met words = replicas_by (coverage_for (wide_met words)) (replicas_met words)
 
--- the status is that of the outcome: a device's fault only where the reader or the writer has failed, and any other
--- only where neither has
+-- the status is that of the outcome; the outcome is a device's fault where the reader or the writer has failed, and
+-- only there
 pub record EndsBy {R W : Type 0} (to : Streams R W) (status : ℕ) (outcome : Result Status RunFault) : Type 0 where
   pub status_is : status ≡ status_of outcome
   pub whole : OnOk outcome (is_broken to ≡ false)
@@ -43,8 +43,8 @@ pub record WritesLast {R W : Type 0} (from to : Streams R W) (outcome : Result S
   pub unread : has_failed to.reader ≡ true → to.writer ≡ from.writer
   pub unanswered : IsErrOf outcome Memory → to.writer ≡ from.writer
 
--- a run of this verb, of which this is wanted, ended with this status: after the whole output, or after a beginning of
--- it, which a service alone may have sent before its end
+-- A run of this verb ended with this status: with the whole output for what was wanted, or with a beginning of it. Only
+-- a service may have written some of it before its end.
 pub record RunEnds {R W : Type 0} (from to : Streams R W) (bytes old new : Option (List ℕ)) (verb : Verb)
     (wanted : Wanted) (status : ℕ) : Type 0 where
   pub outcome : Result Status RunFault
@@ -53,21 +53,22 @@ pub record RunEnds {R W : Type 0} (from to : Streams R W) (bytes old new : Optio
   pub err : OnErr outcome (WritesBeginning bytes old new verb wanted)
   pub last : verb ≢ Serve → WritesLast from to outcome
 
--- sorted cases where they are asked for, or where a check by joint ones writes that an overlap has too many of them
+-- the cases by which an explanation judges: sorted ones where they are asked for, and else joint ones, or sorted ones
+-- where a check by joint ones writes that an overlap has too many of them
 abbrev pub IsJudgedBy : Bool → List ℕ → Coverage → Type 0
 IsJudgedBy true input coverage = coverage ≡ Sorted
 IsJudgedBy false input Joint = ⊤
 IsJudgedBy false input Sorted =
     (t : TooManyTypes) × IsOutput Check (replicas_by Joint 1) input Refused (too_many_text t ++ 10 ∷ [])
 
--- a check of these bytes, where they are known, by the cases by which they are judged, ends with this status
+-- a check of these bytes, where they are known, ends with this status, by the cases by which an explanation judges them
 abbrev pub EndsAsJudged : Bool → Option (List ℕ) → Status → Type 0
 EndsAsJudged wide bytes status =
     (input : List ℕ) × IfSome bytes (λ text. input ≡ text) × (coverage : Coverage) × IsJudgedBy wide input coverage
     × (out : List ℕ) × IsOutput Check (replicas_by coverage 1) input status out
 
--- an explanation, by sorted cases where `wide`, ended with this status: where it ended well with that of a check of the
--- same bytes
+-- An explanation, by sorted cases where `wide`, ended with this status. Where it ended well, a check of the same bytes
+-- ends with the same status.
 pub record ExplanationEnds {R W : Type 0} (from to : Streams R W) (wide : Bool) (bytes : Option (List ℕ))
     (status : ℕ) : Type 0 where
   pub outcome : Result Status RunFault
@@ -89,7 +90,7 @@ pub record ProgramEnds {R W : Type 0} (words : List (List ℕ)) (from to : Strea
       → ExplanationEnds from to (wide_met words) bytes status
   pub refused : faults_of words ≢ [] → IsStopped from to status
 
--- it was stopped before it had words, or ended as it does when it is called with some
+-- the program was stopped before it had words, or ended as it does when it is called with some words
 abbrev pub EndsByWords : {R W : Type 0} → Streams R W → Streams R W → Option (List ℕ) → Option (List ℕ)
     → Option (List ℕ) → ℕ → Type 0
 EndsByWords from to bytes old new status =

@@ -15,7 +15,8 @@ use std::io::{Read, Write};
 use std::sync::Wait;
 use std::thread::Threads;
 
-/// How an explanation is to be written: a page has the drawing too, and both have all that there is in any case.
+/// How an explanation is to be written: a page has the drawing as well; both have the numbers, the steps and the rest
+/// in any case.
 fn manner_of(style: Style) -> Manner {
     if style.html {
         Manner::Page
@@ -44,8 +45,8 @@ fn behind_text(input: &[u8]) -> &[u8] {
 }
 
 /// Reads all of the input, and writes the explanation of its program text and of its command lines, by sorted cases
-/// where `wide` or where there are too many joint ones: of a text that is too long no more is held than tells that it
-/// is.
+/// where `wide` or where there are too many joint ones. Of a text that is too long only as much is kept as shows that
+/// it is.
 ///
 /// # Errors
 ///

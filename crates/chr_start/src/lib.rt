@@ -36,7 +36,7 @@ use std::sync::Wait;
 use std::thread::Threads;
 use std::{env, io};
 
-/// Where too little stack or memory is left.
+/// The exit status where there is not enough stack or memory.
 const WANT_OF_MEMORY: u8 = 4;
 
 /// The exit status of a run.
@@ -51,7 +51,7 @@ fn exit_code(outcome: Result<Status, RunFault>) -> ExitCode
     }
 }
 
-/// Writes an explanation.
+/// Writes an explanation, and answers the exit status.
 fn end_explanation<R: Read, W: Write>(
     rt: &(impl Threads + Wait + Sync),
     alloc: Global,
@@ -66,7 +66,7 @@ fn end_explanation<R: Read, W: Write>(
     exit_code(explain_input(rt, alloc, streams, settings.wide, settings.style))
 }
 
-/// Answers lines as they come.
+/// Answers lines as they come, and then the exit status.
 fn end_service<R: Read, W: Write>(
     rt: &(impl RandomSource + Threads + Wait + Sync),
     alloc: Global,
@@ -82,7 +82,7 @@ fn end_service<R: Read, W: Write>(
     exit_code(serve(rt, alloc, streams, settings))
 }
 
-/// Writes a verdict, and by a run the answers of all lines.
+/// Writes a verdict, and by a run the answers of all lines, and answers the exit status.
 fn end_run<R: Read, W: Write>(
     rt: &(impl RandomSource + Threads + Wait + Sync),
     alloc: Global,
@@ -100,7 +100,7 @@ fn end_run<R: Read, W: Write>(
 }
 
 /// Does what these settings ask for.
-// Not put into its caller, whose frame would hold the room that this one takes.
+// Inlined, its frame would be part of the caller's, and take stack for as long as the caller runs.
 #[inline(never)]
 fn run_settings<R: Read, W: Write>(
     rt: &(impl RandomSource + Threads + Wait + Sync),
@@ -126,7 +126,7 @@ fn run_settings<R: Read, W: Write>(
 
 /// The exit status for words that gave no settings. What `clap` says of them is told on the standard error, with the
 /// likely cause.
-// Not put into its caller, whose frame would hold the room that this one takes.
+// Inlined, its frame would be part of the caller's, and take stack for as long as the caller runs.
 #[inline(never)]
 fn refuse_words(rt: &(impl Eprint + AllocGlobal), words: &[String], fault: &WordsFault) -> ExitCode
     ensures memory { fault.now ≡ Memory → exit_status result ≡ 4 }
@@ -144,8 +144,8 @@ fn refuse_words(rt: &(impl Eprint + AllocGlobal), words: &[String], fault: &Word
     }
 }
 
-/// Does what the words ask for, of which the first is the program's name, and gives the status to end with. Words that
-/// `clap` refuses are told on the standard error; nothing is read or written then. Where these limits leave too little
+/// Does what the words ask for, of which the first is the program's name, and answers the exit status. Words that
+/// `clap` refuses are told on the standard error; nothing is read or written then. Where `limits` leave too little
 /// address space for several workers there is one.
 pub fn run_words<R: Read, W: Write>(
     rt: &(impl Eprint + AllocGlobal + RandomSource + Threads + Wait + Sync),
@@ -198,7 +198,7 @@ fn words(rt: &(impl Env + AllocGlobal)) -> io::Result<Vec<String>> {
 /// Does what the program's words ask for, and gives the status to end with. Where the system allows too little stack
 /// nothing is read or written.
 ///
-/// Which words these are, and what the limits of the process are, the system tells: no contract can say that.
+/// Its contract says nothing of the words and of the limits of the process: the system tells these.
 pub fn start<R: Read, W: Write>(
     rt: &(impl Env + Eprint + Files + AllocGlobal + RandomSource + Threads + Wait + Sync),
     streams: &mut Streams<R, W>,

@@ -11,26 +11,27 @@ use std::str;
 /// Where Linux lists the limits of the process that reads it.
 const LIST: &str = "/proc/self/limits";
 
-/// The list is shorter than this many bytes as far as the lines that are read.
+/// The most bytes of the list that are read. The lines that are looked for stand within them.
 const MOST_READ: usize = 1_024;
 
-/// What the line of the stack begins with: bytes follow, or a word where there is no limit.
+/// What the line of the stack begins with. Bytes follow, or a word where there is no limit.
 const STACK_LINE: &str = "Max stack size";
 
 /// What the line of the address space begins with.
 const SPACE_LINE: &str = "Max address space";
 
-/// So many bytes of stack are enough for any input. Most is taken by the value of a line that has as many brackets in
+/// The bytes of stack that are enough for any input. Most is taken by the value of a line that has as many brackets in
 /// brackets as it may, which is read by recursion.
 const ENOUGH_STACK: u64 = 262_144;
 
-/// So much address space is left to what is told and answered before threads are started: they give none back.
+/// The bytes of address space that are left to what is told and answered before threads are started: threads give none
+/// back.
 const STORE_SPACE: u64 = 4 << 30;
 
-/// So much address space has to be left for each thread, which asks for a heap of its own.
+/// The bytes of address space that have to be left for each thread, which asks for a heap of its own.
 const THREAD_SPACE: u64 = 256 << 20;
 
-/// The limits of the process in bytes, those that are known and set.
+/// The limits of the process in bytes, as far as they are known and set.
 #[derive(Clone, Copy, Debug, PartialEq, Eq)]
 pub struct Limits {
     stack: Option<u64>,
@@ -57,7 +58,7 @@ impl Limits {
         space: None,
     };
 
-    /// The limits by a list of them.
+    /// The limits that a list of them tells.
     fn listed(list: &[u8]) -> Limits {
         match str::from_utf8(list) {
             Ok(list) => Limits {
@@ -69,7 +70,7 @@ impl Limits {
     }
 
     /// The limits of the process that asks.
-    // Not put into its caller, whose frame would hold the room that this one takes.
+    // Inlined, its frame would be part of the caller's, and take stack for as long as the caller runs.
     #[inline(never)]
     pub fn of_process(files: &impl Files) -> Limits {
         let mut room = [0u8; MOST_READ];
@@ -84,7 +85,7 @@ impl Limits {
         self.stack.is_some_and(|limit| limit < ENOUGH_STACK)
     }
 
-    /// Whether there may be too little address space for so many workers, of which one has the caller's thread.
+    /// Whether there may be too little address space for `workers` workers, of which one has the caller's thread.
     fn has_little_space(&self, workers: u32) -> bool {
         let threads = u64::from(workers.saturating_sub(1));
         let wanted = STORE_SPACE.saturating_add(threads.saturating_mul(THREAD_SPACE));
@@ -92,7 +93,7 @@ impl Limits {
     }
 
     /// The settings, with one worker where there may be too little address space for more. What is written does not
-    /// depend on that.
+    /// depend on the number of workers.
     pub(crate) fn fitting(&self, settings: Settings) -> Settings
         requires { IsWithinLimits settings }
         ensures limits { IsWithinLimits result }
