@@ -21,10 +21,10 @@ use std::alloc::Global;
 use std::sync::{Arc, Wait};
 use std::thread::Threads;
 
-/// `min/1`, of which the least stays.
+/// The constraint `min/1`, of which the least stays.
 pub const MINIMUM: &str = ":- chr_constraint min/1. min(X) \\ min(Y) <=> X =< Y | true.";
 
-/// `coin/0` and `note/0`, and two coins for a note.
+/// The constraints `coin/0` and `note/0`, and a rule by which two coins become a note.
 pub const COINS: &str = ":- chr_constraint coin/0, note/0. coin, coin <=> note.";
 
 /// The accepted program of a text, where it is one.
@@ -35,7 +35,7 @@ pub fn accepted<R: Threads + Sync>(rt: &R, alloc: Global, text: &str) -> Option<
     Arc::new(alloc, accepted).ok()
 }
 
-/// A book of the program that was told nothing, about to be shared by so many seats, at most 16.
+/// A book of the program that was told nothing, about to be shared by `seats` seats, at most 16.
 pub fn opening(alloc: Global, accepted: &Arc<Accepted>, seats: u32) -> Option<Opening>
     ensures { IfSome result (λ opening. opening.accepted ≡ Some (arc_value accepted.now)) }
 {
@@ -67,7 +67,7 @@ pub fn store(alloc: Global, values: &[i64]) -> Option<Bag> {
     Some(bag)
 }
 
-/// The store of so many coins.
+/// The store of `count` coins.
 pub fn coins(alloc: Global, count: u32) -> Option<Bag> {
     let mut bag = Bag::new(alloc);
     for _ in 0..count {
@@ -81,7 +81,7 @@ pub fn op(alloc: Global, origin: u32, number: u64, values: &[i64]) -> Option<Op>
     Op::of(OpId { origin, number }, store(alloc, values)?)
 }
 
-/// The store of a receipt, where one was shown.
+/// The store that a receipt shows, if it shows one.
 pub fn shown(receipt: &Receipt) -> Option<&Bag> {
     match &receipt.reply {
         Reply::Shown(bag) => Some(bag),
@@ -89,7 +89,7 @@ pub fn shown(receipt: &Receipt) -> Option<&Bag> {
     }
 }
 
-/// Whether this came to the store of the first symbol at these values.
+/// Whether a settling came to the store of the first symbol at these values.
 pub fn rests_at(alloc: Global, settled: &Settled, values: &[i64]) -> bool {
     let Settled::Rest(receipt) = settled else {
         return false;
@@ -100,8 +100,8 @@ pub fn rests_at(alloc: Global, settled: &Settled, values: &[i64]) -> bool {
     }
 }
 
-/// The first seat rests the book by so many workers in so many parts, and the book is closed with the receipt of that,
-/// where a store was shown. Nothing where these are not all its seats.
+/// The first seat rests the book by `workers` workers in `parts` parts, and the book is closed with the receipt of the
+/// show, where a store was shown. Nothing is answered where these are not all seats of the book.
 pub fn rest_and_close<J: Naming, R: Threads + Wait + Sync>(
     rt: &R,
     alloc: Global,
