@@ -13,7 +13,7 @@ use std::alloc::Global;
 use std::process::Abort;
 use std::thread::Threads;
 
-/// A book of the program of the least value, about to be shared by so many seats.
+/// A book of the program of the least value, about to be shared by `seats` seats.
 fn prepared(rt: &(impl Abort + Threads + Sync), alloc: Global, seats: u32) -> Opening {
     let accepted = accepted(rt, alloc, MINIMUM).expect(rt, "a program");
     opening(alloc, &accepted, seats).expect(rt, "memory")

@@ -157,7 +157,7 @@ fn bring<J: Naming, K: Naming, R: Wait>(
     Some(())
 }
 
-/// A messenger's thread: so many rounds, each to the first hall and then to the second.
+/// A messenger's thread: in each of `rounds` rounds it brings bids to the first hall and then to the second.
 fn messenger<J: Naming, K: Naming, R: Wait>(
     rt: &R,
     alloc: Global,
@@ -173,7 +173,7 @@ fn messenger<J: Naming, K: Naming, R: Wait>(
     }
 }
 
-/// Two workers rest a book in four parts. What comes of it is not looked at, since the clerks go on.
+/// Two workers rest a book in four parts. What the settling answers is not looked at, since the clerks go on.
 fn settle<J: Naming, R: Threads + Wait + Sync>(
     rt: &R,
     alloc: Global,
@@ -192,7 +192,7 @@ fn opened<J: Naming, R: Abort>(rt: &R, alloc: Global, opening: Opening) -> (Shar
 }
 
 /// The last seat of a hall has the book rested once more. Then its seats are all back, and the book is closed with the
-/// receipt of that, which stands in the book's journal, as the contract says.
+/// receipt of the show, which stands in the book's journal, as the contract says.
 fn closed<J: Naming, R: Abort + Threads + Wait + Sync>(
     rt: &R,
     alloc: Global,
@@ -216,8 +216,9 @@ fn closed<J: Naming, R: Abort + Threads + Wait + Sync>(
 }
 
 /// Both halls close their books, and look at what their last receipts show. It is proved that each of the two stores is
-/// the one normal form of the bids that are held at its receipt's place in its book, and so that they are equal where
-/// these are the same bids. That the messenger has made them the same is not: so the stores are compared.
+/// the one normal form of the bids that are held at its receipt's place in its book, and so that the stores are equal
+/// where these are the same bids. It is not proved that the messenger has made them the same: so the stores are
+/// compared.
 fn winners<J: Naming, K: Naming, R: Abort + Threads + Wait + Sync>(
     rt: &R,
     alloc: Global,

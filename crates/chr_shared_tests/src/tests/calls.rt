@@ -8,7 +8,7 @@ use std::alloc::Global;
 use std::process::Abort;
 use std::sync::Wait;
 
-/// What is answered.
+/// What is answered to a call.
 #[derive(Drop)]
 pub enum Said {
     New,
@@ -26,7 +26,7 @@ pub fn only_value(store: &Bag) -> Option<i64> {
     }
 }
 
-/// Whether this is what a reply says.
+/// Whether a reply says this.
 pub fn says(reply: &Reply, said: &Said) -> bool {
     match (said, reply) {
         (Said::New, Reply::Told(Added::New)) | (Said::Again, Reply::Told(Added::Again)) => true,

@@ -35,7 +35,7 @@ fn least_lease<J: Naming, R: Abort + Wait>(
     panic!(rt; "memory")
 }
 
-/// All parts that are out come back.
+/// Takes all parts that are out back.
 fn recall_all<J: Naming, R: Abort + Wait>(
     rt: &R,
     alloc: Global,
@@ -67,7 +67,8 @@ fn rested<J: Naming, R: Wait>(
     None
 }
 
-/// What the book comes to, whatever was refused to the workers.
+/// Shares the book, rests it and takes all parts back: the value that the book comes to, whatever was refused to the
+/// workers.
 fn run<J: Naming + Send + Sync, R: Abort + Threads + Wait + Sync>(
     rt: &R,
     alloc: Global,

@@ -3,10 +3,10 @@ use chr_workers::Gate;
 use std::sync::atomic::{AtomicU64, Ordering};
 use std::thread;
 
-/// The turns that a wait has.
+/// How often a wait looks before it gives up.
 const TURNS: u32 = 100_000_000;
 
-/// Whether a flag is up within that many turns.
+/// Whether a flag goes up within [`TURNS`] looks.
 pub fn waits(flag: &AtomicU64) -> bool {
     for _ in 0..TURNS {
         if flag.load(Ordering::SeqCst) == 1 {
@@ -17,13 +17,16 @@ pub fn waits(flag: &AtomicU64) -> bool {
     false
 }
 
-/// Part 1 raises a flag, and waits until part 2 has passed and another flag is up.
+/// A gate at which part 1 raises a flag, and waits until part 2 has passed and another flag is up.
 #[derive(Drop)]
 pub struct Holds {
+    /// Whether part 1 has come.
     pub first: AtomicU64,
+    /// Whether part 2 has passed.
     pub second: AtomicU64,
+    /// Whether part 1 may go on, once part 2 has passed.
     pub told: AtomicU64,
-    /// Whether its turns were used up.
+    /// Whether a wait at the gate was given up.
     pub used_up: AtomicU64,
 }
 

@@ -69,7 +69,7 @@ fn counted(book: &Book) -> (u32, u32) {
     (puts, news)
 }
 
-/// The seat and the number of the receipt that it came to.
+/// The seat and the number of the receipt that a settling came to.
 fn last_of(settled: &Settled) -> Option<(u32, u64)> {
     match settled {
         Settled::Rest(receipt) => Some((receipt.seat, receipt.number)),

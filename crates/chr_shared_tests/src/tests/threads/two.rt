@@ -14,7 +14,7 @@ use std::sync::Wait;
 use std::sync::atomic::Ordering;
 use std::thread::{Threads, join};
 
-/// Tells once a part is held at the gate, and lets it go. Whether one was held in time.
+/// Tells once a part is held at the gate, and lets the part go. Answers whether one was held in time.
 fn tell_late<J: Naming, R: Wait>(
     rt: &R,
     alloc: Global,
