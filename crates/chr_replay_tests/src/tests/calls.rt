@@ -54,8 +54,8 @@ fn lacked(receipt: &Receipt, alloc: Global) -> Option<OpList> {
     }
 }
 
-/// What the giver holds and the taker lacks goes to the taker. The receipts of the taker's summary, of what the giver
-/// answers to it, and of the merge.
+/// The giver's operations that the taker lacks go to the taker. Answers the receipts of the taker's summary, of the
+/// giver's operations, and of the merge.
 pub fn give<J: Naming, K: Naming, R: Abort + Wait>(
     rt: &R,
     alloc: Global,

@@ -1,4 +1,4 @@
-//! Two shared books with as many seats each. Every thread has a seat at both, and the journals are replayed in the end.
+//! Two shared books with equally many seats. Every thread has a seat at both, and the journals are replayed in the end.
 ghost use Rattle.std.specs.Prelude.{◌≡◌};
 
 mod clerks;
@@ -22,7 +22,7 @@ use std::sync::{Arc, Wait};
 use std::thread;
 use std::thread::Threads;
 
-/// The runs of each test.
+/// How many runs each test makes.
 const RUNS: u64 = 250;
 
 /// The calls that the threads of a run have to share out.
@@ -169,7 +169,7 @@ fn share<J: Naming + Send + Sync, K: Naming + Send + Sync, R: Abort + Threads + 
     (one, other)
 }
 
-/// The slow replica after the journal of a closed book, each reply of which it gave too.
+/// A slow replica that was replayed along the journal of a closed book, and gave each of its replies.
 fn replayed(rt: &impl Abort, alloc: Global, closed: &Closed) -> Replica {
     let mut replica = Replica::new(alloc);
     for place in 0..closed.book.entries() {
@@ -182,7 +182,7 @@ fn replayed(rt: &impl Abort, alloc: Global, closed: &Closed) -> Replica {
     replica
 }
 
-/// A run. Whether both books hold the same operations in the end; their pools are equal then.
+/// Makes a run, and answers whether both books hold the same operations in the end; their pools are equal then.
 fn run(
     rt: &(impl Abort + Threads + Wait + Sync),
     alloc: Global,
@@ -200,7 +200,8 @@ fn run(
     agree
 }
 
-/// Runs with that many seats and up to three more. Enough of them come to the same operations in both books.
+/// Makes [`RUNS`] runs, with `least` seats and up to three more. Enough of them come to the same operations in both
+/// books.
 fn check_runs(rt: &(impl Abort + Threads + Wait + Sync), alloc: Global, least: u32) {
     let program = accepted(rt, alloc, MINIMUM).expect(rt, "a program");
     let mut agreed = 0u32;

@@ -29,7 +29,7 @@ fn tell_ten<J: Naming, R: Wait>(
     }
 }
 
-/// So many rounds, each into the first book and then into the second.
+/// Exchanges in `rounds` rounds, each into the first book and then into the second.
 fn exchange<J: Naming, K: Naming, R: Abort + Wait>(
     rt: &R,
     alloc: Global,
@@ -92,7 +92,7 @@ fn list_of<J: Naming>(rt: &impl Abort, alloc: Global, seats: [Seat<J>; 2]) -> Ve
     seats
 }
 
-/// Its first seat rests the book, which is closed then.
+/// The first seat of a book rests it, and it is closed then.
 fn rest<J: Naming, R: Abort + Threads + Wait + Sync>(
     rt: &R,
     alloc: Global,

@@ -1,5 +1,5 @@
-//! Sixteen seats lend two of three coins out each, in threads of their own. The odd ones put back what came of it; the
-//! even ones recall first, and put too late.
+//! Sixteen seats lend two of three coins out each, in threads of their own. The odd ones put back what came of the
+//! coins; the even ones recall them first, and put too late.
 ghost use Rattle.std.specs.Prelude.{◌≡◌};
 
 use crate::tests::calls::{done_of, opened, receipt};

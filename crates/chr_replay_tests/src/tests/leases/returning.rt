@@ -8,10 +8,10 @@ use std::process::Abort;
 use std::sync::Arc;
 use std::thread::Threads;
 
-/// As the program of the least value, but for the guard.
+/// The program of the least value, with another guard.
 const STRICT: &str = ":- chr_constraint min/1. min(X) \\ min(Y) <=> X < Y | true.";
 
-/// As the program of the least value, but for the name of its rule.
+/// The program of the least value, with a name for its rule.
 const NAMED: &str = ":- chr_constraint min/1. least @ min(X) \\ min(Y) <=> X =< Y | true.";
 
 fn program(rt: &(impl Abort + Threads + Sync), alloc: Global, text: &str) -> Arc<Accepted> {
@@ -45,7 +45,7 @@ fn rested(rt: &impl Abort, alloc: Global, board: &Board, number: u64, under: &Ac
     under.rest_part(alloc, lease).ok().expect(rt, "memory")
 }
 
-/// What comes of it under the programs of these texts.
+/// What comes of the lease of this number under each of the programs of these texts.
 fn all_rested(
     rt: &(impl Abort + Threads + Sync),
     alloc: Global,
@@ -61,7 +61,7 @@ fn all_rested(
     dones
 }
 
-/// Puts it back. Where that is refused it is handed back, with the refusal's number.
+/// Puts back what came of a lease. Where that is refused it is handed back, with the refusal's number.
 fn put(board: &mut Board, done: Done) -> (Option<Done>, Option<u8>) {
     match board.put(done) {
         Ok(()) => (None, None),
@@ -69,8 +69,8 @@ fn put(board: &mut Board, done: Done) -> (Option<Done>, Option<u8>) {
     }
 }
 
-/// Puts all of them back, of which as many are refused as there are numbers, one after the other with these. Those are
-/// handed back.
+/// Puts back what came of leases, one after the other. As many are refused as there are numbers, with these numbers in
+/// turn, and handed back.
 fn put_all(
     rt: &impl Abort,
     alloc: Global,
@@ -89,7 +89,7 @@ fn put_all(
     back
 }
 
-/// Whether this is the whole pool, which is leased out for that and recalled.
+/// Whether this is the whole pool. It is leased out to be looked at, and recalled.
 fn has_pool(rt: &impl Abort, alloc: Global, board: &mut Board, pool: &[i64]) -> bool {
     let leases = board.take_parts(alloc, 1).ok().expect(rt, "a lease");
     let [lease] = leases.as_slice() else {
@@ -99,7 +99,7 @@ fn has_pool(rt: &impl Abort, alloc: Global, board: &mut Board, pool: &[i64]) -> 
     board.recall(lease.number).is_ok() && is_same
 }
 
-/// What is told here is what a pool of 3 and 5 comes to.
+/// Whether the board comes to rest in one step and then shows 3, to which a pool of 3 and 5 comes.
 fn rests(rt: &impl Abort, alloc: Global, board: &mut Board) -> bool {
     let steps = board.settle().ok();
     let shown = board.show(alloc).ok().expect(rt, "shown");

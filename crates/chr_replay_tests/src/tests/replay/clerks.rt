@@ -19,7 +19,7 @@ pub struct Side<J: Naming> {
 }
 
 impl<J: Naming> Side<J> {
-    /// With no receipts yet.
+    /// The side of a seat, with no receipts yet.
     pub fn new(alloc: Global, seat: Seat<J>) -> Side<J> {
         Side {
             seat,
@@ -28,12 +28,16 @@ impl<J: Naming> Side<J> {
     }
 }
 
-/// The sides of one thread, what it draws, and how many calls it makes.
+/// What one thread has.
 #[derive(Drop)]
 pub struct Clerk<J: Naming, K: Naming> {
+    /// Its seat at the first book.
     pub one: Side<J>,
+    /// Its seat at the second book.
     pub other: Side<K>,
+    /// By what it draws its calls.
     pub random: Random,
+    /// How many calls it has to make.
     pub calls: usize,
 }
 
@@ -55,7 +59,7 @@ fn mostly_five(random: &mut Random) -> i64 {
     }
 }
 
-/// Tells an operation of the seat. Seldom it stands for a value of its own.
+/// Tells one of six operations of the seat. Its second value is mostly 5: so one that is told again is mostly the same.
 fn tell<J: Naming, R: Abort + Wait>(
     rt: &R,
     alloc: Global,

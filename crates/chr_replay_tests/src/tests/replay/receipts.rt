@@ -3,7 +3,7 @@ use chr_acts::{Act, Book, Entry, Reply};
 use chr_ops::Added;
 use chr_shared::Receipt;
 
-/// Which act it is, with a number that it names.
+/// The kind of an act, with a number that the act names.
 fn asked(act: &Act) -> (u8, u64) {
     match act {
         Act::Tell(op) => (1, op.id().number),
@@ -21,7 +21,7 @@ fn asked(act: &Act) -> (u8, u64) {
     }
 }
 
-/// Which reply it is, with a number that it names.
+/// The kind of a reply, with a number that the reply names.
 fn answered(reply: &Reply) -> (u8, u64) {
     match reply {
         Reply::Told(Added::New) => (1, 0),

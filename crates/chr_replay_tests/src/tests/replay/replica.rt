@@ -24,9 +24,13 @@ struct Part {
 /// A replica of plain lists.
 #[derive(Drop)]
 pub struct Replica {
+    /// The operations that it was told.
     told: Vec<Told>,
+    /// The values of its pool.
     pool: Values,
+    /// The parts that are leased out.
     out: Vec<Part>,
+    /// The next lease number.
     next: u64,
 }
 
@@ -57,7 +61,7 @@ fn is_refused(reply: &Reply, number: u8) -> bool {
 }
 
 impl Replica {
-    /// It was told nothing.
+    /// The replica that was told nothing.
     pub fn new(alloc: Global) -> Replica {
         Replica {
             told: Vec::new(alloc),
@@ -76,7 +80,7 @@ impl Replica {
         None
     }
 
-    /// Takes an operation in. Whether it was new; nothing where its id stands for other values.
+    /// Takes an operation in, and answers whether it was new, or nothing where its id stands for other values.
     fn take_in(&mut self, rt: &impl Abort, op: &Op) -> Option<bool> {
         let (id, values) = (op.id(), Values::of(op.bag()));
         match self.held(id) {
@@ -126,7 +130,7 @@ impl Replica {
         }
     }
 
-    /// Leases a part out, under the number that was answered.
+    /// Leases a part out. Answers whether the lease has the part and the next number.
     fn lease(&mut self, rt: &impl Abort, values: Values, lease: &Lease) -> bool {
         let number = self.next;
         self.next = number.wrapping_add(1);
@@ -145,7 +149,7 @@ impl Replica {
         }
     }
 
-    /// Whether the parts are as many, even in size, and all of the pool.
+    /// Whether there are `parts` parts, even in size, that make up the pool.
     fn take_parts(&mut self, rt: &impl Abort, parts: u32, leases: &[Lease]) -> bool {
         let least = self.pool.len().checked_div(parts).unwrap_or(0);
         for lease in leases {
@@ -158,7 +162,7 @@ impl Replica {
         leases.len() == parts as usize && self.pool.len() == 0
     }
 
-    /// The part of a number comes back, where it is out.
+    /// Takes the part of a number back, where it is out.
     fn comes_back(&mut self, number: u64) -> Option<Values> {
         let mut found = self.out.len();
         for place in 0..self.out.len() {

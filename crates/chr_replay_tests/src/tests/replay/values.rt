@@ -1,7 +1,7 @@
 //! Stores of the program of the least value, as numbers of atoms.
 use chr_base::bag::Bag;
 
-/// The values are those below this one.
+/// How many values there are: 0, 1 and so on.
 pub const VALUES: usize = 12;
 
 /// How many atoms there are of each value.
