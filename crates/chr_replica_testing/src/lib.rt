@@ -13,7 +13,7 @@ pub fn accepted_of<R: Threads + Sync>(rt: &R, alloc: Global, text: &str) -> Opti
     accepted_in(rt, alloc, text, 1)
 }
 
-/// The same, whose stores are kept in so many pools at most.
+/// The accepted program of a text, where it is one. Its stores are kept in at most `pools` pools.
 pub fn accepted_in<R: Threads + Sync>(
     rt: &R,
     alloc: Global,
