@@ -1,5 +1,5 @@
-//! Replicas are told, merge, lease out, take back and show, on programs and stores that are given as texts; acts on
-//! them, and books; and workers that rest them.
+//! Replicas are told, merge, lease out, take back and show, on programs and stores that are given as texts; acts are
+//! carried out on them, and books called; and workers rest them.
 mod acts;
 mod boards;
 mod exchanges;

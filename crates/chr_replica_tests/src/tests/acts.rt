@@ -18,7 +18,7 @@ use std::thread::Threads;
 /// An act, with the values of its atoms.
 #[derive(Clone, Copy)]
 enum Ask {
-    /// To tell these by the operation 1 of origin 1.
+    /// To tell these values by the operation 1 of origin 1.
     Tell(&'static [i64]),
     /// To merge operations of origin 2, by their numbers, each of which tells one value.
     Merge(&'static [(u64, i64)]),
@@ -36,7 +36,7 @@ enum Ask {
     LeastLease,
 }
 
-/// What is replied.
+/// What is replied to an act.
 #[derive(Clone, Copy)]
 enum Said {
     Told(Added),
@@ -44,7 +44,7 @@ enum Said {
     Stepped,
     /// A part is leased out under this number.
     Leased(u64),
-    /// Parts are, under these.
+    /// Parts are leased out under these numbers.
     LeasedParts(&'static [u64]),
     WasPut,
     Recalled,
@@ -137,7 +137,7 @@ fn have_ids(ops: &[Op], ids: &[(u32, u64)]) -> bool {
     all
 }
 
-/// Whether this is replied.
+/// Whether a reply is the expected one.
 fn is_said(rt: &impl Abort, alloc: Global, reply: &Reply, expected: Said) -> bool {
     match (reply, expected) {
         (Reply::Told(added), Said::Told(other)) => *added == other,
@@ -165,7 +165,7 @@ fn replied(rt: &impl Abort, alloc: Global, board: &mut Board, act: &Act) -> Repl
     carry_out(alloc, board, act).expect(rt, "memory")
 }
 
-/// What it replies to the call for that act alone, where there is one.
+/// What the board replies to the call for that act alone, where there is such a call.
 fn replied_to_call(rt: &impl Abort, alloc: Global, board: &mut Board, act: &Act) -> Reply {
     assert!(rt; act.fits(), "it does not fit");
     let reply = match act {
@@ -184,7 +184,7 @@ fn new_board(rt: &(impl Abort + Threads + Sync), alloc: Global) -> Board {
     Board::open(alloc, accepted(rt, alloc)).expect(rt, "memory")
 }
 
-/// A new board replies so to these acts, in turn, and another to the calls for them.
+/// A new board gives the expected replies to these acts, in turn, and another one to the calls for them.
 fn expect_replied(rt: &(impl Abort + Threads + Sync), alloc: Global, rows: &[(Ask, Said)]) {
     let mut board = new_board(rt, alloc);
     let mut called = new_board(rt, alloc);
@@ -197,7 +197,7 @@ fn expect_replied(rt: &(impl Abort + Threads + Sync), alloc: Global, rows: &[(As
     }
 }
 
-/// Whether a show by several threads is replied to so.
+/// Whether a show by several threads gets the expected reply.
 fn is_shown_by_threads(
     rt: &(impl Abort + Threads + Sync),
     alloc: Global,
@@ -223,7 +223,7 @@ fn several_threads_show_what_has_settled(rt: HostRuntime) {
     assert!(rt; is_shown_by_threads(&rt, alloc, &board, Said::Shown(&[3])));
 }
 
-/// The id of the operation that is told, and those of two that are merged.
+/// The ids of the operation that is told, and after it of the two that are merged.
 const TOLD: IdRange = IdRange {
     origin: 1,
     lo: 1,

@@ -11,7 +11,7 @@ pub fn opened(rt: &(impl Abort + Threads + Sync), alloc: Global, text: &str) -> 
     Board::open(alloc, accepted(rt, alloc, text)).expect(rt, "memory")
 }
 
-/// Whether the board answers so to an operation.
+/// Whether the board gives the expected answer to an operation.
 pub fn tells(alloc: Global, board: &mut Board, op: Op, expected: Result<Added, Refusal>) -> bool {
     board.tell(alloc, op) == expected
 }
@@ -47,7 +47,7 @@ fn shows(rt: &impl Abort, alloc: Global, board: &Board, text: &str) -> bool {
     }
 }
 
-/// The board comes to rest in so many steps, and shows this store then.
+/// The board comes to rest in `steps` steps, and then shows this store.
 pub fn settles(rt: &impl Abort, alloc: Global, board: &mut Board, steps: u64, text: &str) {
     let taken = board.settle().ok();
     assert!(rt; taken == Some(steps), "another number of steps to {text}");

@@ -20,12 +20,12 @@ fn ops(rt: &impl Abort, alloc: Global, rows: &[Row]) -> Vec<Op> {
     ops
 }
 
-/// Whether the board answers so to operations that it is to merge at once.
+/// Whether the board gives the expected answer to operations that it is to merge at once.
 fn merges(alloc: Global, board: &mut Board, ops: &[Op], expected: Result<u64, Refusal>) -> bool {
     board.merge(alloc, ops) == expected
 }
 
-/// A board that was told 5 refuses these operations so, and stays as it is.
+/// A board that was told 5 refuses these operations for the expected reason, and stays as it is.
 fn refuses(rt: &(impl Abort + Threads + Sync), alloc: Global, rows: &[Row], expected: Refusal) {
     let mut board = told(rt, alloc, MINIMUM, "min(5)");
     let ops = ops(rt, alloc, rows);
@@ -51,7 +51,7 @@ fn lacked(rt: &impl Abort, alloc: Global, from: &Board, to: &Board) -> Vec<Op> {
     from.lacks(alloc, &summary).expect(rt, "memory")
 }
 
-/// Merges what the other board lacks of this one's operations into it. So many are new to it.
+/// Merges what the other board lacks of this one's operations into it. `new` operations are new to it.
 fn sync(rt: &impl Abort, alloc: Global, from: &Board, to: &mut Board, new: u64) {
     let lacked = lacked(rt, alloc, from, to);
     assert!(rt; merges(alloc, to, &lacked, Ok(new)), "{new}");
@@ -65,7 +65,7 @@ fn told_two(rt: &(impl Abort + Threads + Sync), alloc: Global) -> Board {
     board
 }
 
-/// The board was told four atoms, and shows the least after three steps.
+/// The board was told four atoms, and after three steps shows the least.
 fn comes_to_the_least(rt: &impl Abort, alloc: Global, board: &mut Board) {
     assert!(rt; board.ops().told() == 4);
     settles(rt, alloc, board, 3, "min(3)");

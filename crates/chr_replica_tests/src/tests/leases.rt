@@ -32,7 +32,7 @@ fn rested(rt: &impl Abort, alloc: Global, board: &Board, lease: Lease, number: u
     done.expect(rt, "memory")
 }
 
-/// Leases these atoms out under this number, and keeps what comes of them; why they aren't leased out.
+/// Leases these atoms out under this number, and keeps what comes of them. Answers why they aren't leased out, if so.
 fn take_and_rest(
     rt: &impl Abort,
     alloc: Global,
@@ -59,7 +59,7 @@ fn last_of(rt: &impl Abort, alloc: Global, kept: &[Done]) -> Done {
     last.copy(alloc).expect(rt, "memory")
 }
 
-/// Why the board doesn't take this back.
+/// Why the board doesn't take back what came of a lease, if so.
 fn put(board: &mut Board, done: Done) -> Option<Refusal> {
     match board.put(done) {
         Ok(()) => None,
@@ -67,7 +67,7 @@ fn put(board: &mut Board, done: Done) -> Option<Refusal> {
     }
 }
 
-/// Why the board doesn't do what it is asked.
+/// Why the board doesn't do what it is asked, if so.
 fn refusal(
     rt: &impl Abort,
     alloc: Global,
@@ -83,7 +83,7 @@ fn refusal(
     }
 }
 
-/// The board answers so to these calls, in turn.
+/// The board gives the expected answers to these calls, in turn.
 fn answers(rt: &impl Abort, alloc: Global, board: &mut Board, rows: &[(Call, Option<Refusal>)]) {
     let mut kept = Vec::new(alloc);
     for (place, (call, expected)) in rows.iter().enumerate() {
@@ -92,7 +92,7 @@ fn answers(rt: &impl Abort, alloc: Global, board: &mut Board, rows: &[(Call, Opt
     }
 }
 
-/// A board that was told these atoms, and answers so to these calls, in turn.
+/// A board that was told these atoms, and gives the expected answers to these calls, in turn.
 fn board_after(
     rt: &(impl Abort + Threads + Sync),
     alloc: Global,
@@ -120,7 +120,7 @@ fn a_late_return_is_refused(rt: HostRuntime) {
     settles(&rt, alloc, &mut board, 1, "min(3)");
 }
 
-/// Whether so many leases are out, the least of which has this number.
+/// Whether `count` leases are out, the least of which has this number.
 fn has_out(board: &Board, count: u64, least: Option<u64>) -> bool {
     board.leases() == count && board.least_lease() == least
 }

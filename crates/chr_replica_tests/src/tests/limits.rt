@@ -16,10 +16,10 @@ const ATOMS: &str = ":- chr_constraint a/0.";
 /// How many operations of the greatest size tell the most atoms.
 const OPERATIONS: u64 = 15_625;
 
-/// How many atoms such an operation has.
+/// How many atoms an operation of the greatest size has.
 const SIZE: u64 = MAX_OPERATION as u64;
 
-/// The operation of this number, of so many equal atoms.
+/// The operation of this number, of `atoms` equal atoms.
 fn op_of(rt: &impl Abort, alloc: Global, number: u64, atoms: u64) -> Op {
     let mut bag = Bag::new(alloc);
     for _ in 0..atoms {
@@ -28,7 +28,7 @@ fn op_of(rt: &impl Abort, alloc: Global, number: u64, atoms: u64) -> Op {
     Op::of(OpId { origin: 1, number }, bag).expect(rt, "an operation")
 }
 
-/// The board answers so to the operation of this number, of so many atoms.
+/// The board gives the expected answer to the operation of this number, of `atoms` equal atoms.
 fn tell(
     rt: &impl Abort,
     alloc: Global,

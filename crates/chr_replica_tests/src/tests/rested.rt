@@ -56,7 +56,7 @@ fn rested(rt: &impl Abort, alloc: Global, board: &mut Board, atoms: &Bag) -> Bag
     end
 }
 
-/// All atoms of both.
+/// All atoms of two stores.
 fn joined(rt: &impl Abort, alloc: Global, first: &Bag, second: &Bag) -> Bag
     ensures { result ≡ first.now ⊕ second.now }
 {
@@ -74,7 +74,8 @@ fn one(rt: &impl Abort, alloc: Global, op: Op) -> Vec<Op>
     list
 }
 
-/// Where a board puts what became of an operation and of the part that is carried to it, if it is told that.
+/// Where a board puts what became of an operation and of the part that is carried to it, or nothing where it is not
+/// told the operation.
 fn places(
     rt: &impl Abort,
     alloc: Global,
@@ -97,7 +98,7 @@ fn places(
     board.tell_rested(alloc, &told, into).expect(rt, "memory")
 }
 
-/// Where it puts what became of an operation to which nothing is carried.
+/// Where a board puts what became of an operation to which nothing is carried.
 fn places_alone(
     rt: &impl Abort,
     alloc: Global,
@@ -127,16 +128,20 @@ fn what_was_rested_goes_into_the_pool(rt: HostRuntime) {
     settles(&rt, alloc, &mut board, 0, "min(3)");
 }
 
-/// A board, the part that it has leased out under 1, an operation that it was not told, and what becomes of both.
+/// A board, and an operation that it is to be told with a part that it has leased out.
 #[derive(Drop)]
 struct Carrying {
+    /// It has leased the part out under 1.
     board: Board,
+    /// The part.
     part: Bag,
+    /// An operation that the board was not told.
     second: Op,
+    /// What becomes of the part and the operation's atoms.
     end: Bag,
 }
 
-/// The part is what became of another operation.
+/// A board that has leased out what became of one operation, and a second operation.
 fn part_out(rt: &(impl Abort + Threads + Sync), alloc: Global) -> Carrying
     ensures declared { IsDeclared (program_on result.board) result.second }
     ensures reached { Reaches (Step (rules_of (program_on result.board))) (result.part ⊕ result.second.1) result.end }
@@ -159,7 +164,7 @@ fn part_out(rt: &(impl Abort + Threads + Sync), alloc: Global) -> Carrying
     }
 }
 
-/// Where the board puts what becomes of both, if the part is out under that number.
+/// Where the board puts what becomes of the part and the operation, if the part is out under that number.
 fn places_both(
     rt: &impl Abort,
     alloc: Global,

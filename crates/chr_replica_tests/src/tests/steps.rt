@@ -43,7 +43,7 @@ fn ends(
     }
 }
 
-/// So end the steps of each row.
+/// The steps of each row end in the row's store.
 fn expect_ends(rt: &(impl Abort + Threads + Sync), alloc: Global, rows: &[Taken]) {
     let program = accepted(rt, alloc, MINIMUM);
     for (atoms, taken, end) in rows {
@@ -97,7 +97,7 @@ fn first_missing(
     }
 }
 
-/// So each row's steps are missing.
+/// The first missing step of each row is at the row's place.
 fn expect_missing(rt: &(impl Abort + Threads + Sync), alloc: Global, rows: &[Missing]) {
     let program = accepted(rt, alloc, MINIMUM);
     for (row, (atoms, taken, place)) in rows.iter().enumerate() {

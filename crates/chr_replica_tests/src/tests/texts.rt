@@ -16,7 +16,7 @@ pub fn accepted(rt: &(impl Abort + Threads + Sync), alloc: Global, text: &str) -
     accepted_of(rt, alloc, text).expect(rt, "an accepted program")
 }
 
-/// The same, whose stores are kept in so many pools at most.
+/// The accepted program of a text, whose stores are kept in at most `pools` pools.
 pub fn accepted_in(
     rt: &(impl Abort + Threads + Sync),
     alloc: Global,

@@ -3,10 +3,10 @@ use chr_workers::Gate;
 use std::sync::atomic::{AtomicU64, Ordering};
 use std::thread;
 
-/// The turns that a wait has.
+/// How often a wait looks before it gives up.
 const TURNS: u32 = 100_000_000;
 
-/// Whether a flag goes up within these turns.
+/// Whether a flag goes up within [`TURNS`] looks.
 fn goes_up(flag: &AtomicU64) -> bool {
     for _ in 0..TURNS {
         if flag.load(Ordering::SeqCst) == 1 {
@@ -17,7 +17,7 @@ fn goes_up(flag: &AtomicU64) -> bool {
     false
 }
 
-/// Holds part 1 until part 2 has passed.
+/// A gate that holds part 1 until part 2 has passed.
 #[derive(Drop)]
 pub struct Holds {
     first_went_on: AtomicU64,
@@ -32,7 +32,7 @@ impl Holds {
         }
     }
 
-    /// Whether part 1 went on after part 2 had passed, before its turns were used up.
+    /// Whether part 1 went on after part 2 had passed, and not since its wait was given up.
     pub fn has_seen_both(&self) -> bool {
         self.first_went_on.load(Ordering::SeqCst) == 1
     }
@@ -54,11 +54,11 @@ fn bit_of(part: u32) -> u64 {
     1u64.checked_shl(part.wrapping_sub(1)).unwrap_or(0)
 }
 
-/// Notes the parts that pass.
+/// A gate that notes the parts that pass.
 #[derive(Drop)]
 pub struct Notes {
     passed: AtomicU64,
-    /// The sum of their bits.
+    /// The sum of the parts' bits.
     bits: AtomicU64,
 }
 

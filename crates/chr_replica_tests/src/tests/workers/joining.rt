@@ -11,10 +11,10 @@ use std::process::Abort;
 use std::sync::{Arc, Wait};
 use std::thread::Threads;
 
-/// So many operations tell more atoms than are settled at once.
+/// This many operations tell more atoms than are settled at once.
 const MANY: u32 = 20;
 
-/// As many pools at most.
+/// The most pools in which stores are kept.
 const MOST_POOLS: usize = 4;
 
 /// Programs of `p/2` and `q/2`, and in how many pools of [`MOST_POOLS`] their stores are kept.
@@ -24,12 +24,12 @@ const PROGRAMS: [(&str, usize); 7] = [
         ":- chr_constraint p/2, q/2. p(K,V) \\ p(K,W) <=> V =< W | true. q(K,V) \\ q(K,W) <=> W =< V | true.",
         MOST_POOLS,
     ),
-    // By the last.
+    // Joined by the last argument.
     (
         ":- chr_constraint p/2, q/2. p(V,K) \\ p(W,K) <=> V =< W | true.",
         MOST_POOLS,
     ),
-    // By the first of the one symbol and the last of the other.
+    // Joined by the first argument of the one symbol and the last of the other.
     (
         ":- chr_constraint p/2, q/2. q(K,V) \\ p(W,K) <=> true. p(X,Y) \\ p(X,Y) <=> true. q(X,Y) \\ q(X,Y) <=> true.",
         MOST_POOLS,
@@ -39,12 +39,12 @@ const PROGRAMS: [(&str, usize); 7] = [
         ":- chr_constraint p/2, q/2. :- chr_weight p/2 = 2. p(K,V) <=> q(V,K). q(V,K) \\ q(W,K) <=> V =< W | true.",
         MOST_POOLS,
     ),
-    // By none, since no variable stands in both heads.
+    // Joined by no argument, since no variable stands in both heads.
     (
         ":- chr_constraint p/2, q/2. p(X,V) \\ p(Y,W) <=> V < W | true.",
         1,
     ),
-    // By none that serves both rules.
+    // Joined by no argument that serves both rules.
     (
         ":- chr_constraint p/2, q/2. q(K,V) \\ p(K,W) <=> true. q(V,K) \\ p(W,K) <=> true.",
         1,
@@ -56,7 +56,7 @@ const PROGRAMS: [(&str, usize); 7] = [
     ),
 ];
 
-/// What one such board shows that was told many operations and rested.
+/// What a board of a program shows that was told [`MANY`] operations and was rested.
 fn rested<R: Abort + Threads + Wait + Sync>(
     rt: &R,
     alloc: Global,
@@ -69,7 +69,7 @@ fn rested<R: Abort + Threads + Wait + Sync>(
     board.show(alloc).ok().expect(rt, "a settled board")
 }
 
-/// So many workers come to what one thread does, whatever the parts.
+/// `workers` workers come to the store of one thread, whatever the parts.
 fn come_to<R: Abort + Threads + Wait + Sync>(
     rt: &R,
     alloc: Global,
@@ -83,7 +83,7 @@ fn come_to<R: Abort + Threads + Wait + Sync>(
     }
 }
 
-/// Boards in several pools come to it too, by so many workers.
+/// Boards in several pools come to the store of one thread, too, whatever the number of workers.
 fn pools_come_to<R: Abort + Threads + Wait + Sync>(
     rt: &R,
     alloc: Global,

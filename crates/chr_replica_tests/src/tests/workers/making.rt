@@ -44,7 +44,7 @@ fn key_of(number: u64) -> i64 {
     (number % KEYS) as i64
 }
 
-/// Its value: different ones, in an order that is not that of the numbers.
+/// The value of the atom of a number. Atoms have different values, in an order that is not that of the numbers.
 fn value_of(number: u64) -> i64 {
     (number % 100_000 * 7919 % 100_003) as i64
 }
@@ -87,7 +87,7 @@ pub fn tell(rt: &impl Abort, alloc: Global, board: &mut Board, facts: Facts, num
     assert!(rt; told.is_ok(), "{number}");
 }
 
-/// A board of that program that was told so many operations of 64 atoms.
+/// A board of a program that was told `operations` operations of 64 atoms.
 pub fn board_of(
     rt: &impl Abort,
     alloc: Global,
@@ -104,13 +104,13 @@ pub fn board_of(
     board
 }
 
-/// A board of the least values that was told so many operations.
+/// A board of the least values that was told `operations` operations.
 pub fn board(rt: &(impl Abort + Threads + Sync), alloc: Global, operations: u32) -> Board {
     let program = accepted(rt, alloc, LEAST);
     board_of(rt, alloc, &program, Facts::Best, operations)
 }
 
-/// The least value of a key among the atoms of so many operations.
+/// The least value of a key among the atoms of `operations` operations.
 fn least(key: i64, operations: u32) -> i64 {
     let mut least = i64::MAX;
     for number in 0..u64::from(operations) * SIZE {

@@ -11,10 +11,10 @@ use std::process::Abort;
 use std::sync::Wait;
 use std::thread::Threads;
 
-/// So many operations tell more atoms than are settled at once.
+/// This many operations tell more atoms than are settled at once.
 const MANY: u32 = 20;
 
-/// So many don't.
+/// This many operations tell no more atoms than are settled at once.
 const FEW: u32 = 16;
 
 /// One operation tells so few atoms that they are settled at once, unless parts are asked for.
@@ -43,14 +43,14 @@ pub fn rest<R: Abort + Threads + Wait + Sync, G: Gate>(
     assert!(rt; rested.is_ok(), "{workers} workers, {parts} parts");
 }
 
-/// The board holds so many operations, and shows the least value of each key.
+/// The board holds `operations` operations, and shows the least value of each key.
 fn shows(rt: &impl Abort, alloc: Global, board: &Board, operations: u32) {
     let shown = board.show(alloc).ok().expect(rt, "a settled board");
     assert!(rt; shown.is_same(&leasts(rt, alloc, operations)));
     assert!(rt; board.ops().told() == u64::from(operations) * 64);
 }
 
-/// How many workers there are, how many parts, and how many of these pass a gate.
+/// Numbers of workers and of parts, and how many of these parts pass a gate.
 const SHARED: [(u32, u32, u32); 9] = [
     (1, 1, 0),
     (1, 64, 0),
@@ -63,8 +63,8 @@ const SHARED: [(u32, u32, u32); 9] = [
     (16, 64, 64),
 ];
 
-/// So many workers come to the store that a plain loop finds of what so many operations told. Each part that they rest
-/// passes the gate once, under its number.
+/// `workers` workers come to the store that a plain loop finds of what `operations` operations told. Each part that
+/// they rest passes the gate once, under its number.
 fn come_to_the_least<R: Abort + Threads + Wait + Sync>(
     rt: &R,
     alloc: Global,
@@ -88,7 +88,7 @@ fn workers_come_to_the_least(rt: HostRuntime) {
     come_to_the_least(&rt, rt.alloc(), FEW, 4, 16, 0);
 }
 
-/// The gate holds part 1 until part 2 has passed: one worker after the other would use its turns up.
+/// The gate holds part 1 until part 2 has passed: it would give up if one worker came after the other.
 #[test]
 fn two_workers_rest_two_parts_at_once(rt: HostRuntime) {
     let mut board = board(&rt, rt.alloc(), MANY);
