@@ -25,22 +25,22 @@ pub enum BoardCall {
     SettleOnceMore,
 }
 
-/// The board is told an operation, where there is one.
+/// Tells the board an operation, where there is one.
 pub fn grow(alloc: Global, board: &mut Board, op: Option<Op>) {
     if let Some(op) = op {
         let _ = board.tell(alloc, op);
     }
 }
 
-/// A part is leased out.
+/// Leases a part out, where there is one.
 fn lease(alloc: Global, board: &mut Board, part: Option<Bag>) {
     if let Some(part) = part {
         let _ = board.take(alloc, &part);
     }
 }
 
-/// Three operations, and two atoms of theirs are leased out. The last operation comes after that, so that there is no
-/// room left for what comes back.
+/// Tells the board three operations, of which two atoms are leased out. The last operation comes after that, so that
+/// there is no room left for what comes back.
 fn lease_two(alloc: Global, board: &mut Board) {
     grow(alloc, board, minima(alloc, 1, 1, &[5, 3, 9]));
     grow(alloc, board, minima(alloc, 2, 7, &[7]));
@@ -48,13 +48,13 @@ fn lease_two(alloc: Global, board: &mut Board) {
     grow(alloc, board, minima(alloc, 2, 8, &[8; 62]));
 }
 
-/// Three atoms that become eight each, and one more that is leased out.
+/// Tells the board three atoms that become eight each, and one more that is leased out.
 fn lease_one(alloc: Global, board: &mut Board) {
     grow(alloc, board, op_of(alloc, EIGHT, 1, "a, a, a, b, a"));
     lease(alloc, board, store_of(alloc, EIGHT, "a"));
 }
 
-/// What the board was told before the call.
+/// Tells the board what it is told before the call.
 fn prepare(alloc: Global, board: &mut Board, made: BoardCall) {
     match made {
         BoardCall::Step | BoardCall::Settle => lease_one(alloc, board),
@@ -118,7 +118,7 @@ fn recall(rt: &impl Print, board: &mut Board) {
     answer(rt, board.recall(1).err());
 }
 
-/// What is not put is handed back.
+/// Puts back what came of a lease. It is handed back where that is refused.
 fn put(rt: &impl Print, alloc: Global, board: &mut Board) -> Option<()> {
     let lease = board.again(alloc, 1).ok()?;
     let done = board.program().rest_part(alloc, lease).ok()?;

@@ -35,7 +35,7 @@ fn opened(rt: &(impl Threads + Sync), alloc: Global, made: BookCall) -> Option<B
     Some(book)
 }
 
-/// What the last call was answered, where that is a number of steps.
+/// Prints the number of steps in the reply of the last call, where there is one.
 fn print_steps(rt: &impl Print, book: &Book) {
     if let Some(entry) = book.entry(book.entries()) {
         match &entry.reply {
@@ -46,7 +46,7 @@ fn print_steps(rt: &impl Print, book: &Book) {
     }
 }
 
-/// The act that is handed back.
+/// Prints the act that is handed back.
 fn print_act(rt: &impl Print, alloc: Global, book: &Book, act: &Act) {
     match act {
         Act::Tell(op) => print_operation(rt, alloc, book.board().program().program(), op),
@@ -72,7 +72,7 @@ fn ask(rt: &impl Print, alloc: Global, book: &mut Book, act: Act) {
     }
 }
 
-/// The pool, as the next lease.
+/// Prints the pool, as the next lease.
 fn print_pool(rt: &impl Print, alloc: Global, book: &mut Book) -> Option<()> {
     let place = book.call(alloc, SEAT, Act::TakeParts(1)).ok()?;
     if let Reply::LeasedParts(leases) = &book.entry(place)?.reply {
@@ -83,7 +83,7 @@ fn print_pool(rt: &impl Print, alloc: Global, book: &mut Book) -> Option<()> {
     Some(())
 }
 
-/// The number of entries, and all that the board holds.
+/// Prints the number of entries, and all that the board holds.
 fn print_book(rt: &impl Print, alloc: Global, book: &mut Book) {
     count(rt, "entries", book.entries());
     print_set(

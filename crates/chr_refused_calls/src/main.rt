@@ -2,8 +2,7 @@
 //! state after it. A line `call` stands before a call and one that begins with `answer` behind it, so that whoever
 //! refuses memory can do so to the call alone. A word names a call that is made alone.
 //!
-//! What is got ready for a call is printed and not looked at: where it were not as it should, another state would be
-//! printed.
+//! What is prepared for a call is printed and not checked: if it were wrong, another state would be printed.
 #![tactic(auto)]
 
 mod boards;

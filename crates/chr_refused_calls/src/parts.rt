@@ -1,4 +1,4 @@
-//! Calls on leases. One of which nothing came is handed back.
+//! Calls on leases. A lease of which nothing came is handed back.
 use crate::printing::{answer, call, print_done, print_lease};
 use chr_join::{Accepted, Lease, StepFault};
 use chr_replica::Refusal;

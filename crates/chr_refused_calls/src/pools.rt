@@ -14,11 +14,11 @@ pub enum PoolCall {
     Step,
 }
 
-/// One atom becomes eight.
+/// A program in which one atom becomes eight.
 pub const EIGHT: &str =
     ":- chr_constraint a/0, b/0. :- chr_weight a/0 = 9. a <=> b, b, b, b, b, b, b, b.";
 
-/// What the pool holds.
+/// Prints what the pool holds.
 fn print_pool(rt: &impl Print, alloc: Global, program: &Program, pool: &Columns) {
     if let Ok(bag) = pool.bag(alloc) {
         print_bag(rt, alloc, program, "pool", &bag);

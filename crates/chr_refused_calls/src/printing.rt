@@ -21,7 +21,7 @@ pub fn count(rt: &impl Print, what: &str, number: u64) {
     let _ = println!(rt; "{what} {number}");
 }
 
-/// Adds an atom that is there so many times: after their number, where it is more than once.
+/// Adds an atom that is there `count` times: after this number, where it is more than 1.
 fn push_atom(
     alloc: Global,
     text: &mut String,
@@ -56,7 +56,7 @@ fn text_of(alloc: Global, program: &Program, bag: &Bag) -> Option<String> {
     Some(text)
 }
 
-/// A store, under what it is.
+/// Prints a store, after what it is.
 pub fn print_bag(rt: &impl Print, alloc: Global, program: &Program, what: &str, bag: &Bag) {
     if let Some(text) = text_of(alloc, program, bag) {
         let _ = println!(rt; "{what}: {text}");
@@ -69,7 +69,7 @@ pub fn print_lease(rt: &impl Print, alloc: Global, program: &Program, lease: &Le
     }
 }
 
-/// What came of a lease.
+/// Prints what came of a lease.
 pub fn print_done(rt: &impl Print, alloc: Global, program: &Program, done: &Done) {
     count(rt, "done", done.number());
     print_bag(rt, alloc, program, "from", done.part());
@@ -81,7 +81,7 @@ pub fn print_operation(rt: &impl Print, alloc: Global, program: &Program, op: &O
     print_bag(rt, alloc, program, "of", op.bag());
 }
 
-/// All operations of a set, and how many atoms they tell.
+/// Prints all operations of a set, and how many atoms they tell.
 pub fn print_set(rt: &impl Print, alloc: Global, program: &Program, set: &OpSet) -> Option<()> {
     count(rt, "told", set.told());
     let none = OpSet::new(alloc).summary(alloc).ok()?;
@@ -91,7 +91,7 @@ pub fn print_set(rt: &impl Print, alloc: Global, program: &Program, set: &OpSet)
     Some(())
 }
 
-/// The least lease that is out, which comes back.
+/// Prints the least lease that is out, and takes it back.
 fn print_least(rt: &impl Print, alloc: Global, board: &mut Board, number: u64) {
     if let Ok(lease) = board.again(alloc, number) {
         print_lease(rt, alloc, board.program().program(), &lease);
@@ -99,7 +99,7 @@ fn print_least(rt: &impl Print, alloc: Global, board: &mut Board, number: u64) {
     let _ = board.recall(number);
 }
 
-/// All leases that are out, which come back.
+/// Prints all leases that are out, and takes them back.
 pub fn print_leases(rt: &impl Print, alloc: Global, board: &mut Board) {
     for _ in 0..LEASES {
         if let Some(number) = board.least_lease() {
@@ -108,19 +108,19 @@ pub fn print_leases(rt: &impl Print, alloc: Global, board: &mut Board) {
     }
 }
 
-/// All that a board holds: its operations, the leases that are out, and last its pool, as the next lease.
+/// Prints all that a board holds: its operations, the leases that are out, and last its pool, as the next lease.
 pub fn print_board(rt: &impl Print, alloc: Global, board: &mut Board) {
     print_set(rt, alloc, board.program().program(), board.ops());
     let _ = board.take_parts(alloc, 1);
     print_leases(rt, alloc, board);
 }
 
-/// The call is made next.
+/// Prints that the call is made next.
 pub fn call(rt: &impl Print) {
     say(rt, "call");
 }
 
-/// It was answered so.
+/// Prints the answer of a call: why it was refused, if it was.
 pub fn answer(rt: &impl Print, refusal: Option<Refusal>) {
     match refusal {
         None => say(rt, "answer done"),
@@ -128,7 +128,7 @@ pub fn answer(rt: &impl Print, refusal: Option<Refusal>) {
     }
 }
 
-/// It was answered so, where nothing but memory may be refused.
+/// Prints the answer of a call to which only memory may be refused.
 pub fn answer_memory(rt: &impl Print, refused: bool) {
     answer(rt, if refused { Some(Refusal::Memory) } else { None });
 }

@@ -1,4 +1,4 @@
-//! A seat has its book rested by workers. Where that is refused memory, calls of the seat bring the parts back.
+//! A seat has its book rested by workers. Where memory is refused to that, calls of the seat bring the parts back.
 ghost use Rattle.std.specs.Prelude.{◌≡◌};
 
 use crate::pools::EIGHT;
@@ -37,7 +37,7 @@ fn tell<J: Naming>(
     }
 }
 
-/// The store of a receipt, where one was shown.
+/// Prints the store that a receipt shows, if it shows one.
 fn print_shown(rt: &impl Print, alloc: Global, program: &Program, what: &str, receipt: &Receipt) {
     if let Reply::Shown(store) = &receipt.reply {
         print_bag(rt, alloc, program, what, store);
@@ -61,7 +61,7 @@ fn rest<J: Naming>(
     }
 }
 
-/// The least lease that is out.
+/// The least lease number that is out.
 fn least_lease<J: Naming>(
     rt: &impl Wait,
     alloc: Global,
@@ -77,7 +77,7 @@ fn least_lease<J: Naming>(
     }
 }
 
-/// All leases that are out are recalled.
+/// Recalls all leases that are out.
 fn recall<J: Naming>(
     rt: &(impl Print + Wait),
     alloc: Global,

@@ -35,14 +35,14 @@ pub fn operations(alloc: Global, rows: &[Minima]) -> Vec<Op> {
     ops
 }
 
-/// The set gets an operation, where there is one.
+/// Adds an operation to the set, where there is one.
 fn grow(set: &mut OpSet, op: Option<Op>) {
     if let Some(op) = op {
         let _ = set.add(op);
     }
 }
 
-/// What the set holds before the call: nothing yet where one operation is added, so that there is no room for it.
+/// Adds what the set holds before the call: nothing where one operation is added, so that there is no room for it.
 fn prepare(alloc: Global, set: &mut OpSet, made: SetCall) {
     if let SetCall::Join = made {
         grow(set, minima(alloc, 1, 1, &[5, 3]));

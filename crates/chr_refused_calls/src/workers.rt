@@ -1,4 +1,4 @@
-//! Boards are rested by workers, and where that is refused memory, recovered.
+//! Workers rest boards. Where memory is refused to that, the boards are recovered.
 use crate::boards::grow;
 use crate::printing::{answer_memory, call, print_bag, print_board, print_leases, print_set};
 use crate::sets::minima;
@@ -52,7 +52,7 @@ fn rest(rt: &(impl Print + Threads + Wait + Sync), alloc: Global, board: &mut Bo
     }
 }
 
-/// What the board shows once all leases are recalled.
+/// Recalls all leases, and prints what the board then shows.
 fn recover(rt: &impl Print, alloc: Global, board: &mut Board) {
     print_set(rt, alloc, board.program().program(), board.ops());
     print_leases(rt, alloc, board);
