@@ -198,7 +198,7 @@ const DELTAS_1: [(&str, &str); 26] = [
     ("[[[1,1],[[\"a\",9223372036854775808]]]]", "refused 31"),
 ];
 
-/// Deltas of version 2, and the same of them.
+/// Deltas of version 2, and the texts of version 1 that are written of their operations, or their refusals.
 const DELTAS_2: [(&str, &str); 14] = [
     ("[2,[]]", "[]"),
     ("[2,[[6,[]]]]", "[]"),
@@ -237,7 +237,7 @@ const DELTA: &str = "[2,[[1,[[4,[[\"min\",2]]]]],[2,[[7,[[\"min\",8],[\"min\",8]
 
 const DELTA_1: &str = "[[[1,4],[[\"min\",2]]],[[2,7],[[\"min\",8],[\"min\",8]]]]";
 
-/// Told: 1/4 `min(2)`, and 2/7 `min(8)` twice.
+/// The set that was told two operations: 1/4 `min(2)`, and 2/7 `min(8)` twice.
 fn two_operations(rt: &impl Abort, alloc: Global, program: &Program) -> OpSet {
     let text = b"[[[2,7],[[\"min\",8],[\"min\",8]]],[[1,4],[[\"min\",2]]]]";
     let ops = read_delta(alloc, program, text.as_slice()).expect(rt, "read");
@@ -246,7 +246,7 @@ fn two_operations(rt: &impl Abort, alloc: Global, program: &Program) -> OpSet {
     set
 }
 
-/// The set is written so, as a delta of version 2 and of version 1.
+/// The deltas of version 2 and of version 1 that are written of the set are these.
 fn expect_written(
     rt: &impl Abort,
     alloc: Global,
@@ -259,7 +259,7 @@ fn expect_written(
     expect_found(rt, "version 1", old.as_str(), expected.1);
 }
 
-/// The set's summary is written so.
+/// The summary that is written of the set is this.
 fn expect_summary(rt: &impl Abort, alloc: Global, set: &OpSet, expected: &str) {
     let found = summary_of_set(rt, alloc, set);
     expect_found(rt, "the summary", found.as_str(), expected);

@@ -28,7 +28,8 @@ fn put_in(rt: &impl Abort, bag: &mut Bag, symbol: u16) {
     bag.add(atom(symbol)).expect(rt, "memory");
 }
 
-/// A bag of atoms without arguments, named by their symbols. Where memory runs out a test ends, here and below.
+/// A bag of atoms without arguments, named by their symbols. Where memory runs out a test ends, here and in all
+/// functions of these tests.
 fn bag(rt: &impl Abort, alloc: Global, symbols: &[u16]) -> Bag {
     let mut bag = Bag::new(alloc);
     for symbol in symbols {

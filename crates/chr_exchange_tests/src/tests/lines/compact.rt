@@ -30,7 +30,7 @@ fn has_borrowed_names(command: &Command<'_>) -> bool {
     }
 }
 
-/// Whether the line's bytes alone say its command, which is a tell then.
+/// Whether the line's command, which is a tell, is read from its bytes alone.
 fn is_compact(alloc: Global, line: &[u8]) -> bool {
     match read_line(alloc, line) {
         Ok(command) => has_borrowed_names(&command),
@@ -51,7 +51,7 @@ const COMPACT: [&str; 4] = [
     "[\"tell\",1,[1,1],[[\"tell\"],[\"a b\",1,2,3,4,5,6,7],[\"[]{},:/'\u{7f}\"]]]",
 ];
 
-/// They cost less than lines that are read by their values.
+/// Tells of this form cost less than lines that are read by their JSON values.
 #[test]
 fn compact_tells_are_read_from_their_bytes(rt: HostRuntime) {
     expect_compact(&rt, rt.alloc(), &COMPACT);

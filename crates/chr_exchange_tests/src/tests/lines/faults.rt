@@ -61,7 +61,7 @@ fn other_lines_are_refused(rt: HostRuntime) {
     assert!(rt; is_refused(alloc, b"[\"\xff\",1]", LineFault::BadLine));
 }
 
-/// So many brackets that open, and as many that close.
+/// A line of `depth` brackets that open, and as many that close.
 fn nested(rt: &impl Abort, alloc: Global, depth: usize) -> Vec<u8> {
     let mut line = Vec::new(alloc);
     line.resize(depth, b'[').expect(rt, "memory");
@@ -79,7 +79,7 @@ fn values_end_at_their_depth(rt: HostRuntime) {
     }
 }
 
-/// A show, and spaces to so many bytes.
+/// A show, followed by spaces up to `len` bytes.
 fn long_show(rt: &impl Abort, alloc: Global, len: usize) -> Vec<u8> {
     let mut line = Vec::new(alloc);
     line.extend_from_slice(b"[\"show\",1]").expect(rt, "memory");

@@ -23,7 +23,7 @@ pub(super) fn jumped(number: u64) -> u64 {
         .wrapping_add(1_442_695_040_888_963_407)
 }
 
-/// Whether a number below 64 is in a set of such numbers, which has them as its bits.
+/// Whether a number below 64 is in a set of such numbers. The set has the numbers as its bits.
 fn has_bit(bits: u64, number: u64) -> bool {
     number < 64 && (bits >> number) % 2 == 1
 }
@@ -54,7 +54,7 @@ fn range_by(number: u64, first: u64) -> (u32, u64, u64) {
     )
 }
 
-/// Some such ranges.
+/// Up to twelve ranges that a seed gives, each by [`range_by`].
 pub(super) fn ranges_by(
     rt: &impl Abort,
     alloc: Global,
@@ -96,7 +96,7 @@ pub(super) fn left_out(
     left
 }
 
-/// Whether a set and ranges of a seed lack what the filter says.
+/// Whether the operations that a set lacks, by ranges of a seed, are those that the filter finds.
 fn lacks_as_filtered(rt: &impl Abort, alloc: Global, seed: u64, first: u64) -> bool {
     let thin = jumped(seed) & jumped(jumped(seed));
     let ids = ids_of(rt, alloc, [jumped(seed), thin, !thin], first);

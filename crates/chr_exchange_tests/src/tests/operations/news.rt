@@ -1,4 +1,4 @@
-//! What is kept of what sets gained; exchanges that go by it are those that go by summaries.
+//! What is kept of what sets gained. Exchanges by what is kept carry the same operations as exchanges by summaries.
 use super::exchange::jumped;
 use super::{add, id, lacked, op, own_summary};
 use chr_ops::{News, Op, OpId, OpSet};
@@ -15,7 +15,7 @@ fn ops_of(rt: &impl Abort, alloc: Global, numbers: &[u64]) -> Vec<Op> {
     ops
 }
 
-/// What happens to the news.
+/// A call on the news.
 enum Call {
     Gained(usize, &'static [u64]),
     GainedOne(usize, u64),
@@ -40,7 +40,7 @@ fn have_numbers(ids: &[OpId], numbers: &[u64]) -> bool {
     all
 }
 
-/// Whether what a giver gained since a taker held all is this, or is not known.
+/// Whether the news say that a giver gained just these numbers since a taker held all, or that it is not known what.
 fn is_known(news: &News, giver: usize, taker: usize, wanted: Option<&[u64]>) -> bool {
     match (news.since(giver, taker), wanted) {
         (Some(ids), Some(numbers)) => have_numbers(ids, numbers),
@@ -81,7 +81,7 @@ fn what_was_gained_is_known_for_each_taker(rt: HostRuntime) {
     }
 }
 
-/// Whether it is known what a giver gained, so many operations since a taker held all.
+/// Whether it is known what a giver gained since a taker held all, where it gained `count` operations, one by one.
 fn is_kept(alloc: Global, count: u64) -> bool {
     let mut news = News::new(alloc);
     news.met(alloc, 0, 1);
@@ -91,7 +91,7 @@ fn is_kept(alloc: Global, count: u64) -> bool {
     news.since(0, 1).is_some()
 }
 
-/// The same where they come as one list.
+/// Whether it is known what a giver gained since a taker held all, where it gained `count` operations in one list.
 fn is_list_kept(rt: &impl Abort, alloc: Global, count: u64) -> bool {
     let mut ops = Vec::new(alloc);
     for number in 0..count {
@@ -127,7 +127,8 @@ fn walked(rt: &impl Abort, alloc: Global, giver: &OpSet, taker: &OpSet) -> Vec<O
     lacked(rt, alloc, giver, &own_summary(rt, alloc, taker))
 }
 
-/// What the taker lacks, among the ids that are known, where they are.
+/// What the taker lacks among the ids that the giver is known to have gained, or all that it lacks where none are
+/// known.
 fn lacked_of(
     rt: &impl Abort,
     alloc: Global,
@@ -165,7 +166,7 @@ fn found(
     (ops, is_same)
 }
 
-/// The taker takes it in. Answers whether that was what a walk finds.
+/// A taker takes in what it lacks of a giver. Answers whether that was what a walk finds.
 fn exchange(rt: &impl Abort, alloc: Global, all: &mut Sets, giver: usize, taker: usize) -> bool {
     let (ops, is_same) = found(rt, alloc, all, giver, taker);
     let joined = all.sets[taker % 3].join(alloc, &ops);
@@ -181,7 +182,8 @@ fn tell(rt: &impl Abort, alloc: Global, all: &mut Sets, place: usize, id: OpId) 
     add(rt, &mut all.sets[place], op(rt, alloc, id, &[0]));
 }
 
-/// One of some steps that jump about: mostly an operation is told, else two sets exchange.
+/// Takes a step that a number gives: mostly an operation is told, else two sets exchange. Answers whether all was as a
+/// walk finds it.
 fn step(rt: &impl Abort, alloc: Global, all: &mut Sets, number: u64) -> bool {
     let place = (number >> 20) as usize;
     if (number >> 30) % 4 == 0 {

@@ -17,7 +17,7 @@ struct Told {
 }
 
 impl Told {
-    /// Nothing told.
+    /// A set that was told nothing.
     fn none(alloc: Global) -> Told {
         Told {
             set: OpSet::new(alloc),
@@ -44,7 +44,7 @@ impl Told {
         }
     }
 
-    /// Tells the set an operation, and answers whether it said what it has to.
+    /// Tells the set an operation, and answers whether the set gave the answer that it has to give.
     fn tell(&mut self, rt: &impl Abort, alloc: Global, row: Row) -> bool {
         let wanted = self.answer(row);
         if wanted == Ok(Added::New) {
@@ -75,7 +75,7 @@ impl Told {
         ids
     }
 
-    /// Whether nothing is lacked by the set's own summary, and by ranges of a seed what they leave out.
+    /// Whether the set lacks nothing of its own summary, and of ranges of a seed just what these leave out.
     fn lacks_as_told(&self, rt: &impl Abort, alloc: Global, seed: u64) -> bool {
         let own = lacked(rt, alloc, &self.set, &own_summary(rt, alloc, &self.set));
         let ids = self.ids(rt, alloc);

@@ -7,7 +7,7 @@ use chr_ops::{AddFault, Added, IdRange, Op, OpId, OpSet, Summary};
 use std::alloc::Global;
 use std::process::Abort;
 
-/// A bag of so many equal atoms.
+/// A bag of `atoms` equal atoms.
 fn bag_of_equal(rt: &impl Abort, alloc: Global, atoms: u32) -> Bag {
     let mut bag = Bag::new(alloc);
     for _ in 0..atoms {
@@ -16,7 +16,7 @@ fn bag_of_equal(rt: &impl Abort, alloc: Global, atoms: u32) -> Bag {
     bag
 }
 
-/// An operation of so many equal atoms.
+/// An operation of `atoms` equal atoms.
 fn op_of_equal(rt: &impl Abort, alloc: Global, id: OpId, atoms: u32) -> Op {
     Op::of(id, bag_of_equal(rt, alloc, atoms)).expect(rt, "an operation")
 }
@@ -31,7 +31,7 @@ fn ops(rt: &impl Abort, alloc: Global, told: &[(u32, u64, u16)]) -> Vec<Op> {
     ops
 }
 
-/// Whether the set answers so to an operation.
+/// Whether the set gives the expected answer to an operation.
 fn adds(
     rt: &impl Abort,
     alloc: Global,
@@ -43,7 +43,7 @@ fn adds(
     set.add(op(rt, alloc, id, symbols)) == expected
 }
 
-/// Whether the set answers so to operations that it is to take in at once.
+/// Whether the set gives the expected answer to operations that it is to take in at once.
 fn joins(alloc: Global, set: &mut OpSet, ops: &[Op], expected: Result<u64, AddFault>) -> bool {
     set.join(alloc, ops) == expected
 }
@@ -65,21 +65,21 @@ fn set_of_numbers(rt: &impl Abort, alloc: Global, numbers: &[u64]) -> OpSet {
     set
 }
 
-/// Adds so many operations of origin 9, of 64 atoms each.
+/// Adds `operations` operations of origin 9, of 64 atoms each.
 fn add_full(rt: &impl Abort, alloc: Global, set: &mut OpSet, operations: u64) {
     for number in 0..operations {
         add(rt, set, op_of_equal(rt, alloc, id(9, number), 64));
     }
 }
 
-/// Adds so many operations of origin 8, of one atom each.
+/// Adds `operations` operations of origin 8, of one atom each.
 fn add_single(rt: &impl Abort, alloc: Global, set: &mut OpSet, operations: u64) {
     for number in 0..operations {
         grow(rt, alloc, set, id(8, number));
     }
 }
 
-/// A set that tells so many atoms.
+/// A set that tells `atoms` atoms.
 fn set_telling(rt: &impl Abort, alloc: Global, atoms: u64) -> OpSet {
     let mut set = OpSet::new(alloc);
     add_full(rt, alloc, &mut set, atoms / 64);
@@ -119,7 +119,7 @@ fn has(rt: &impl Abort, alloc: Global, set: &OpSet, id: OpId, symbols: &[u16]) -
     }
 }
 
-/// Whether the operation has this id and so many atoms.
+/// Whether the operation has this id and `atoms` atoms.
 fn is_of(op: &Op, id: OpId, atoms: usize) -> bool {
     op.id() == id && op.bag().len() == atoms
 }
@@ -233,7 +233,7 @@ fn joins_take_all_or_none(rt: HostRuntime) {
     expect_ranges(&rt, alloc, &set, &[(1, 1, 2)]);
 }
 
-/// A set that tells the most refuses one atom more, and these operations, and knows the operation 1 of origin 1.
+/// A set that tells the most atoms refuses one atom more, and these operations, and knows the operation 1 of origin 1.
 fn expect_full(rt: &impl Abort, alloc: Global, set: &mut OpSet, ops: &[Op]) {
     assert!(rt; tells(set, 1_000_000));
     assert!(rt; adds(rt, alloc, set, id(1, 2), &[1], Err(AddFault::Full)));
