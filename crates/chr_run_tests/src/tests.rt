@@ -16,7 +16,7 @@ use std::random::RandomSource;
 use std::sync::Wait;
 use std::thread::Threads;
 
-/// A run. Each number is 1.
+/// The settings of a run. Each number is 1.
 const PLAIN: Settings = Settings {
     command: Verb::Run,
     replicas: 1,
@@ -38,7 +38,7 @@ fn room(rt: &impl Abort, alloc: Global) -> Vec<u8> {
     Vec::with_capacity(alloc, ROOM).expect(rt, "memory")
 }
 
-/// The status for the input, and all that was written.
+/// The status of a run on the input, and all that was written.
 fn outcome(
     rt: &(impl Abort + RandomSource + Threads + Wait + Sync),
     alloc: Global,

@@ -16,13 +16,17 @@ const OUTPUT: &[u8] = b"accepted: rules 0, cases 0\ntold\na\nrefused 30\n";
 /// How a run ended, and what was written.
 #[derive(Drop)]
 struct Ended {
+    /// What the run answered.
     result: Result<Status, RunFault>,
+    /// Whether the reader failed.
     reader_failed: bool,
+    /// Whether the writer failed.
     writer_failed: bool,
+    /// All that was written.
     written: Vec<u8>,
 }
 
-/// How a run ends whose writer takes a byte a call, and fails at this one. At 0 none fails.
+/// How a run ends whose writer takes a byte a call, and fails at the call of this number, from 1 on. At 0 none fails.
 fn dripped(
     rt: &(impl Abort + RandomSource + Threads + Wait + Sync),
     alloc: Global,
@@ -48,7 +52,7 @@ fn a_byte_a_call(rt: HostRuntime) {
     assert!(rt; ended.written.as_slice() == OUTPUT);
 }
 
-/// Whether the writer's fault is told after so many bytes, which are written.
+/// Whether the writer's fault is told after the first `bytes` bytes of the output, which are written.
 fn fails_after(
     rt: &(impl Abort + RandomSource + Threads + Wait + Sync),
     alloc: Global,
@@ -60,7 +64,8 @@ fn fails_after(
         && OUTPUT.get(..bytes) == Some(ended.written.as_slice())
 }
 
-/// A beginning of the output is written, and all of it before the flush, which is one call more.
+/// At each call that fails a beginning of the output is written. The flush, which is one call more, comes after all of
+/// it.
 #[test]
 fn failing_writers(rt: HostRuntime) {
     let alloc = rt.alloc();

@@ -13,7 +13,7 @@ fn told(rt: &(impl Abort + AllocGlobal), words: &[&str]) -> String {
     }
 }
 
-/// The last line of what is told is this one.
+/// The last line of what is told of these words is this line.
 fn ends(rt: &(impl Abort + AllocGlobal), words: &[&str], line: &str) {
     let text = told(rt, words);
     assert!(rt; text.lines().last() == Some(line), "{text}");
@@ -93,7 +93,7 @@ fn first_line(text: &str) -> &str {
     text.lines().next().unwrap_or("")
 }
 
-/// The first line of what is told shows the word so.
+/// The first line of what is told of a word shows the word in this way.
 fn shows(rt: &(impl Abort + AllocGlobal), word: &str, shown: &str) {
     let text = told(rt, &[word]);
     let first = first_line(&text);
@@ -139,7 +139,7 @@ fn help_tells_statuses(rt: HostRuntime) {
     }
 }
 
-/// What is told of these words has the text, or has not.
+/// Whether what is told of these words has the part is as expected.
 fn contains(rt: &(impl Abort + AllocGlobal), words: &[&str], part: &str, expected: bool) {
     let text = told(rt, words);
     assert!(rt; text.contains(part) == expected, "{text}");

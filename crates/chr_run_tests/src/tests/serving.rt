@@ -18,15 +18,22 @@ const OUTPUT: &[u8] = b"accepted: rules 0, cases 0\ntold\na\nrefused 30\na\n";
 /// How many lines of the input are program text: the last of them has the verdict for an answer.
 const TEXT_LINES: usize = 2;
 
-/// A peer that gives at most so many bytes a wait, and notes whether it was waited for while a line was not answered.
+/// A peer that notes whether it was waited for while a line was not answered.
 #[derive(Drop)]
 struct Peer<'a> {
+    /// The bytes that it has not yet given.
     rest: &'a [u8],
+    /// The most bytes that it gives a wait.
     most: usize,
+    /// How many line feeds it has given.
     lines: usize,
+    /// How often it was waited for.
     waits: usize,
+    /// Whether it was waited for while one of its lines was not answered.
     kept_waiting: bool,
+    /// Whether it could not keep what was sent.
     failed: bool,
+    /// All that was sent to it.
     sent: Vec<u8>,
 }
 
@@ -42,7 +49,7 @@ fn feeds(bytes: &[u8]) -> usize {
 }
 
 impl<'a> Peer<'a> {
-    /// How many answers the lines have that it gave.
+    /// How many answers there are to the lines that it gave.
     fn due(&self) -> usize {
         match self.lines.checked_sub(TEXT_LINES) {
             Some(commands) => commands.saturating_add(1),
@@ -82,7 +89,7 @@ impl<'a> Wire for Peer<'a> {
     }
 }
 
-/// The status of a service of a peer that gives at most so many bytes a wait, and the peer after it.
+/// The status of a service of a peer that gives at most `most` bytes a wait, and the peer after it.
 fn served<'a>(
     rt: &(impl Abort + RandomSource + Threads + Wait + Sync),
     alloc: Global,
@@ -102,12 +109,12 @@ fn served<'a>(
     (status, peer)
 }
 
-/// How many waits give a text of so many bytes, and its end.
+/// How many waits give a text of `len` bytes and its end, where each gives at most `most` bytes.
 fn waits_for(len: usize, most: usize) -> usize {
     len.div_ceil(most.max(1)).saturating_add(1)
 }
 
-/// Whether the input is answered as it comes, by so many waits.
+/// Whether the input is answered as it comes, by no more waits than give it, of at most `most` bytes each.
 fn is_answered_at_once(
     rt: &(impl Abort + RandomSource + Threads + Wait + Sync),
     alloc: Global,
@@ -120,7 +127,7 @@ fn is_answered_at_once(
         && peer.waits == waits_for(INPUT.len(), most)
 }
 
-/// Each whole line is answered before the peer is waited for, however few bytes it gives.
+/// Each whole line is answered before the peer is waited for, however few bytes the peer gives.
 #[test]
 fn lines_are_answered_at_once(rt: HostRuntime) {
     let alloc = rt.alloc();
@@ -180,7 +187,7 @@ fn the_output_is_that_of_a_run(rt: HostRuntime) {
     }
 }
 
-/// Whether the input is refused with this line, after so many waits.
+/// Whether the input is refused with this line, after this number of waits.
 fn is_refused(
     rt: &(impl Abort + RandomSource + Threads + Wait + Sync),
     alloc: Global,
@@ -193,14 +200,15 @@ fn is_refused(
     status == Status::Refused && peer.waits == waits && peer.sent.as_slice() == line
 }
 
-/// A comment of so many bytes, which does not end.
+/// A comment of `len` bytes, which does not end.
 fn comment(rt: &impl Abort, alloc: Global, len: usize) -> Vec<u8> {
     let mut text = Vec::new(alloc);
     text.resize(len, b'%').expect(rt, "memory");
     text
 }
 
-/// A program that is refused ends it, and a text that is too long, before its end was read: the rest is not read.
+/// A service ends with a program that is refused, and with a text that is too long, before the end of that was read:
+/// the rest is not read.
 #[test]
 fn refused_programs_end_it(rt: HostRuntime) {
     let alloc = rt.alloc();

@@ -42,7 +42,7 @@ synced 1
 path(1,2,5), path(1,3,4), path(2,3,1)
 ";
 
-/// A run of three replicas, with so many workers and parts.
+/// The settings of a run of three replicas, with these workers and parts.
 fn settings(rt: &impl Abort, workers: u32, parts: u32) -> Settings
     ensures { IsWithinLimits result }
 {
@@ -56,7 +56,7 @@ fn settings(rt: &impl Abort, workers: u32, parts: u32) -> Settings
     }
 }
 
-/// The status and the output for an input, with so many workers and parts.
+/// The status and the output for an input, with these workers and parts.
 fn shared(
     rt: &(impl Abort + RandomSource + Threads + Wait + Sync),
     alloc: Global,
@@ -80,7 +80,7 @@ fn are_answered(
 
 const PARTS: [u32; 3] = [1, 3, 64];
 
-/// So many workers answer the exchanges, in any number of parts.
+/// `workers` workers answer the exchanges as one does, in any number of parts.
 fn expect_answers(
     rt: &(impl Abort + RandomSource + Threads + Wait + Sync),
     alloc: Global,
@@ -101,7 +101,8 @@ fn workers_answer_exchanges(rt: HostRuntime) {
     }
 }
 
-/// How many lines tell routes, in a short input, and in one that is rested by who reads it and ends in the same lines.
+/// How many lines tell routes in a short input; after it, in a long one that ends in the same lines, and whose first
+/// lines are rested by the threads that read them.
 const LINES: u32 = 400;
 
 const MANY_LINES: u32 = LINES + 64 * 118;
@@ -124,7 +125,7 @@ fn push_route(rt: &impl Abort, text: &mut String, line: u32, place: u32, later: 
     push_number(rt, text, pair.saturating_add(later), "]");
 }
 
-/// A line that tells the first replica eight routes, before so many later ones.
+/// A line that tells the first replica eight routes, where `later` lines come after it.
 fn push_line(rt: &impl Abort, text: &mut String, line: u32, later: u32) {
     push(rt, text, "[\"tell\",1,[1,");
     push_number(rt, text, line, "],[");
@@ -136,7 +137,7 @@ fn push_line(rt: &impl Abort, text: &mut String, line: u32, later: u32) {
     push(rt, text, "]]\n");
 }
 
-/// So many lines that tell the first replica routes between 25 pairs of towns, eight a line. Later ones are shorter.
+/// `lines` lines that tell the first replica routes between 25 pairs of towns, eight a line. Later ones are shorter.
 fn many_routes(rt: &impl Abort, alloc: Global, lines: u32) -> String {
     let mut text = String::new(alloc);
     push(
@@ -151,7 +152,7 @@ fn many_routes(rt: &impl Abort, alloc: Global, lines: u32) -> String {
     text
 }
 
-/// Whether these routes are answered by so many workers as they are by one, which shows the shortest.
+/// Whether these routes are answered by `workers` workers as they are by one, which shows the shortest.
 fn are_shared(
     rt: &(impl Abort + RandomSource + Threads + Wait + Sync),
     alloc: Global,

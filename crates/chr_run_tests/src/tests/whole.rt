@@ -17,14 +17,14 @@ fn text(rt: &impl Abort, alloc: Global) -> Vec<u8> {
     text
 }
 
-/// The bytes that are held after a read on to none, as far as there are no more than so many.
+/// The bytes that are held after a read that begins with none and ends once more than `most` are held.
 fn read(alloc: Global, reader: &mut Watched<impl Read>, most: usize) -> Result<Vec<u8>, RunFault> {
     let mut held = Vec::new(alloc);
     let _ended = read_on(reader, &mut held, most)?;
     Ok(held)
 }
 
-/// How many bytes are held where no more than so many are wanted, and how many are left, by reads of 16,384.
+/// The most bytes that are wanted, how many are then held, and how many are left, by reads of 16,384.
 const HELD: [(usize, usize, usize); 4] = [
     (0, 16_384, 17_384),
     (16_383, 16_384, 17_384),
@@ -54,7 +54,7 @@ fn is_told(alloc: Global, text: &[u8], call: u64) -> bool {
     fault == Some(RunFault::Device) && reader.failed()
 }
 
-/// Whether it is so where nothing is held.
+/// Whether the fault of this call is told, and kept by the reader, where no bytes are held.
 fn is_told_past(rt: &impl Wait, text: &[u8], call: u64) -> bool {
     let mut reader = Watched::of(FailsAt::of(text, call));
     read_past(rt, &mut reader) == Err(RunFault::Device) && reader.failed()
@@ -66,7 +66,7 @@ fn is_read_before(alloc: Global, text: &[u8], call: u64) -> bool {
     read(alloc, &mut reader, usize::MAX).is_ok()
 }
 
-/// Whether all is passed before it.
+/// Whether all is passed before this call, which fails.
 fn is_passed_before(rt: &impl Wait, text: &[u8], call: u64) -> bool {
     let mut reader = Watched::of(FailsAt::of(text, call));
     read_past(rt, &mut reader).is_ok()

@@ -9,7 +9,7 @@ fn push_word(rt: &(impl Abort + AllocGlobal), list: &mut Vec<String>, word: &str
     list.push(word).expect(rt, "memory");
 }
 
-/// `chrrep` with these words after it.
+/// The words `chrrep` and these.
 pub fn list(rt: &(impl Abort + AllocGlobal), words: &[&str]) -> Vec<String> {
     let mut list = Vec::new(rt.alloc());
     push_word(rt, &mut list, "chrrep");
@@ -19,7 +19,7 @@ pub fn list(rt: &(impl Abort + AllocGlobal), words: &[&str]) -> Vec<String> {
     list
 }
 
-/// An explanation as text.
+/// The style of an explanation as text.
 const TEXT: Style = Style {
     dot: false,
     html: false,
@@ -36,7 +36,7 @@ const PLAIN: Settings = Settings {
     parts: 1,
 };
 
-/// Whether `chrrep` with these words after it asks for this.
+/// Whether the word `chrrep` and these ask for these settings.
 fn asks_for(rt: &(impl Abort + AllocGlobal), words: &[&str], expected: Settings) -> bool {
     match read_words(rt.alloc(), &list(rt, words)) {
         Ok(settings) => settings == expected,
@@ -44,7 +44,7 @@ fn asks_for(rt: &(impl Abort + AllocGlobal), words: &[&str], expected: Settings)
     }
 }
 
-/// So asks each row's words.
+/// The words of each row ask for the row's settings.
 fn expect_asked(rt: &(impl Abort + AllocGlobal), rows: &[(&[&str], Settings)]) {
     for (words, expected) in rows {
         assert!(rt; asks_for(rt, words, *expected), "{words:?}");
@@ -190,7 +190,7 @@ fn words_are_taken(rt: HostRuntime) {
     expect_asked(&rt, &WIDE);
 }
 
-/// Whether it is an error of this kind, whose text has the one given.
+/// Whether an error is of this kind, and its text has the text that is given.
 fn is_error(rt: &(impl Abort + AllocGlobal), error: Error, kind: ErrorKind, text: &str) -> bool {
     let is_kind = error.kind() == kind;
     let shown = format!(in rt.alloc(); "{}", WordsFault::Words(error)).expect(rt, "memory");
@@ -205,7 +205,7 @@ fn refuses(rt: &(impl Abort + AllocGlobal), words: &[&str], kind: ErrorKind, tex
     }
 }
 
-/// So is each row refused.
+/// The words of each row are refused with its error.
 fn expect_refused(rt: &(impl Abort + AllocGlobal), rows: &[(&[&str], ErrorKind, &str)]) {
     for (words, kind, text) in rows {
         assert!(rt; refuses(rt, words, *kind, text), "{words:?}");
