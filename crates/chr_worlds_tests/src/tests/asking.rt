@@ -14,7 +14,7 @@ use std::process::Abort;
 use std::sync::Arc;
 use std::thread::Threads;
 
-/// The shortest route between each two places stays.
+/// A program in which the shortest route between each two places stays.
 pub const ROUTES: &str = ":- chr_constraint path/3. path(X,Y,D) \\ path(X,Y,E) <=> D =< E | true.";
 
 /// An event. The first number is that of the replica that is asked.
@@ -35,7 +35,7 @@ pub enum Ask {
     Work(u64, &'static str),
 }
 
-/// What is answered.
+/// What is answered to an event.
 #[derive(Clone, Copy, PartialEq, Eq)]
 pub enum Said {
     Nobody,
@@ -59,7 +59,7 @@ pub fn accepted(rt: &(impl Abort + Threads + Sync), alloc: Global, text: &str) -
     accepted_of(rt, alloc, text).expect(rt, "an accepted program")
 }
 
-/// A world of so many replicas of the program, 1 to [`MAX_REPLICAS`].
+/// A world of `count` replicas of the program, 1 to [`MAX_REPLICAS`].
 pub fn world_of(
     rt: &(impl Abort + Threads + Sync),
     alloc: Global,
@@ -83,7 +83,7 @@ fn step(rt: &impl Abort, alloc: Global, text: &str, on: &str) -> Step {
     step_of(alloc, text, 1, on).expect(rt, "a step")
 }
 
-/// The step of the first rule on these heads, alone.
+/// The one step of the first rule on these heads.
 fn one_step(rt: &impl Abort, alloc: Global, text: &str, on: &str) -> Vec<Step> {
     let mut steps = Vec::new(alloc);
     let step = step(rt, alloc, text, on);
@@ -91,7 +91,7 @@ fn one_step(rt: &impl Abort, alloc: Global, text: &str, on: &str) -> Vec<Step> {
     steps
 }
 
-/// These steps on the part that the replica has leased out under 1.
+/// The event that takes these steps on the part that the replica has leased out under 1.
 fn work(replica: u64, steps: Vec<Step>) -> Event {
     Event::Work {
         replica,
@@ -156,7 +156,7 @@ fn is_said_by(
     }
 }
 
-/// Whether this is answered.
+/// Whether an answer is the expected one.
 pub fn is_said(
     rt: &impl Abort,
     alloc: Global,
@@ -171,7 +171,7 @@ pub fn is_said(
     }
 }
 
-/// Whether the world of the program answers so to the event of a row.
+/// Whether the world of the program gives the expected answer to the event of a row.
 fn is_row(
     rt: &impl Abort,
     alloc: Global,
@@ -184,7 +184,7 @@ fn is_row(
     is_said(rt, alloc, world.program().program(), &answer, expected)
 }
 
-/// The world of the program answers so to the events of these rows, in turn.
+/// The world of the program gives the expected answers to the events of these rows, in turn.
 pub fn expect_answers(
     rt: &impl Abort,
     alloc: Global,
@@ -200,7 +200,7 @@ pub fn expect_answers(
     }
 }
 
-/// The replicas of these rows show this by threads.
+/// The replicas of these rows show what is expected by threads.
 pub fn expect_shown(
     rt: &(impl Abort + Threads + Sync),
     alloc: Global,
@@ -234,7 +234,7 @@ fn answers(rt: &impl Abort, alloc: Global, world: &mut World, events: &[Event]) 
     world.play(alloc, events).ok().expect(rt, "memory")
 }
 
-/// The world of the program plays the events of these rows at once, and answers so.
+/// The world of the program plays the events of these rows at once, and gives the expected answers.
 pub fn expect_played(
     rt: &impl Abort,
     alloc: Global,

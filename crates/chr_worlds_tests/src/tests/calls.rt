@@ -13,13 +13,13 @@ fn op(rt: &impl Abort, alloc: Global, text: &str, number: u64, atoms: &str) -> O
     op_of(alloc, text, number, atoms).expect(rt, "an operation")
 }
 
-/// This is answered.
+/// An answer is the expected one.
 fn expect_said(rt: &impl Abort, alloc: Global, world: &World, answer: &Answer, expected: Said) {
     let program = world.program().program();
     assert!(rt; is_said(rt, alloc, program, answer, expected));
 }
 
-/// The summary that is answered, where one is.
+/// The summary that is answered, where it is one.
 fn summed(answer: Answer) -> Option<Summary> {
     match answer {
         Answer::Replied(Reply::Summed(summary)) => Some(summary),
@@ -27,7 +27,7 @@ fn summed(answer: Answer) -> Option<Summary> {
     }
 }
 
-/// The operations that are answered, where any are.
+/// The operations that are answered, where it is operations.
 fn told_in(answer: Answer) -> Option<OpList> {
     match answer {
         Answer::Replied(Reply::Lacked(ops)) => Some(ops),
@@ -40,7 +40,7 @@ fn summary_of(rt: &impl Abort, alloc: Global, world: &World, replica: u64) -> Su
     summed(answer).expect(rt, "a summary")
 }
 
-/// What the first replica holds and the second lacks: so many operations.
+/// What the first replica holds and the second lacks: `count` operations.
 fn lacked(rt: &impl Abort, alloc: Global, world: &World, count: usize) -> OpList {
     let summary = summary_of(rt, alloc, world, 2);
     let answer = world.lacks(alloc, 1, &summary).expect(rt, "memory");

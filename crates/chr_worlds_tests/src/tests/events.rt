@@ -60,7 +60,7 @@ fn is_text(rt: &impl Abort, alloc: Global, program: &Program, store: &Bag, text:
     assert!(rt; written.as_str() == text, "{text}");
 }
 
-/// The replica's pool is this store. The whole of it is leased out then.
+/// The replica's pool is this store. To be looked at, the whole pool is leased out.
 fn has_pool(rt: &impl Abort, alloc: Global, world: &mut World, text: &str) {
     let answer = answer(rt, alloc, world, &Event::At(1, Act::TakeParts(1)));
     let part = leased_whole(&answer).expect(rt, "one part");

@@ -1,4 +1,5 @@
-//! Random events happen to worlds and to a slow model of them, which have to reply and to end alike.
+//! Random events happen to worlds and to a slow model of them. Both have to give the same replies and to end in the
+//! same stores.
 mod comparing;
 mod ending;
 mod family;
@@ -27,17 +28,17 @@ use std::process::Abort;
 use std::sync::Arc;
 use std::thread::Threads;
 
-/// The events of each world, without those of its end.
+/// How many events happen to each world before those of its end.
 const EVENTS: u32 = 40;
 
-/// The worlds of each program. Interpreted they take a hundred times longer.
+/// How many worlds are played of each program. Interpreted they take a hundred times longer.
 const WORLDS: u64 = 1_000;
 
 fn shared(rt: &impl Abort, program: &Arc<Accepted>) -> Arc<Accepted> {
     program.clone().expect(rt, "memory")
 }
 
-/// So many replicas of the model.
+/// `count` replicas of the model.
 fn replicas(rt: &impl Abort, alloc: Global, count: u32) -> Vec<Replica> {
     let mut replicas = Vec::new(alloc);
     for _ in 0..count {
@@ -51,7 +52,7 @@ fn numbers(seed: u64) -> Random {
     Random::new(seed.wrapping_mul(0x9E37_79B9_7F4A_7C15))
 }
 
-/// The model of so many replicas to which nothing has happened.
+/// The model of `count` replicas to which nothing has happened.
 fn modelled(rt: &impl Abort, alloc: Global, family: Family, random: Random, count: u32) -> Scene {
     Scene {
         family,

@@ -60,7 +60,7 @@ fn exchanges_go_round(rt: HostRuntime) {
     let alloc = rt.alloc();
     let mut world = told_routes(&rt, alloc);
     expect_answers(&rt, alloc, &mut world, ROUTES, &ROUND);
-    // So they do by a law, which also may be asked of replicas that are not there.
+    // Replicas 1 and 3 agree by a law, which may be asked of replicas that are not there, too.
     world.agree(1, 3);
     world.agree(0, 4);
 }

@@ -46,7 +46,7 @@ fn leases(rt: &impl Abort, alloc: Global, board: &Board, part: &Part) -> bool {
     }
 }
 
-/// Whether the board tells so many atoms.
+/// Whether the board tells `told` atoms.
 fn tells(board: &Board, told: u64) -> bool {
     board.ops().told() == told
 }
@@ -83,12 +83,12 @@ fn least(parts: &[Part]) -> Option<u64> {
     least
 }
 
-/// Whether the board rests where the pool does.
+/// Whether the board is at rest just where the replica's pool is.
 fn rests_as(family: Family, board: &Board, replica: &Replica) -> bool {
     board.at_rest() == is_at_rest(family, &replica.pool)
 }
 
-/// Whether the board holds the replica's operations and leases, and rests where its pool does.
+/// Whether the board holds the replica's operations and leases, and is at rest just where its pool is.
 pub fn is_board_of(
     rt: &impl Abort,
     alloc: Global,

@@ -27,7 +27,7 @@ fn leased_by(rt: &impl Abort, alloc: Global, replicas: &[Replica], number: u64) 
     }
 }
 
-/// What all that was told rests to, by the model.
+/// What the atoms of all told operations rest to, by the model.
 fn end(rt: &impl Abort, alloc: Global, scene: &Scene) -> Vec<Atom> {
     let mut all = Replica::new(alloc);
     for replica in &scene.replicas {
@@ -66,7 +66,7 @@ impl Game {
         }
     }
 
-    /// The store that a replica has to show, which has to be this one.
+    /// Settles a replica and has it show its store, which has to be this one.
     fn settle_one(&mut self, rt: &impl Abort, alloc: Global, number: u64, end: &[Atom]) {
         self.ask(rt, alloc, number, Act::Settle, false);
         self.ask(rt, alloc, number, Act::Show, false);
@@ -86,7 +86,7 @@ impl Game {
         }
     }
 
-    /// Ends the world. All stores have to be what all that was told rests to.
+    /// Ends the world. All stores have to be what the atoms of all told operations rest to.
     pub fn finish(&mut self, rt: &impl Abort, alloc: Global) {
         let end = end(rt, alloc, &self.scene);
         self.recall_everywhere(rt, alloc);

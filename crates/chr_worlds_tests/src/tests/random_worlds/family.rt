@@ -19,7 +19,7 @@ pub enum Family {
 pub const COUNTERS: &str =
     ":- chr_constraint low/1, high/1. low(X) \\ low(Y) <=> X =< Y | true. high(X) \\ high(Y) <=> X >= Y | true.";
 
-/// Programs that declare the same as the four and have other rules.
+/// Programs that declare the same as the four families and have other rules.
 pub const OTHER_MINIMUM: &str = ":- chr_constraint min/1. min(X) \\ min(Y) <=> X >= Y | true.";
 
 pub const OTHER_ROUTES: &str =
@@ -40,7 +40,7 @@ fn value(atom: &Atom, place: usize) -> i64 {
     }
 }
 
-/// Whether the two have equal values at the first two places.
+/// Whether two atoms have equal values at the first two places.
 fn join_same_places(first: &Atom, second: &Atom) -> bool {
     value(first, 0) == value(second, 0) && value(first, 1) == value(second, 1)
 }

@@ -16,7 +16,7 @@ use std::alloc::Global;
 use std::process::Abort;
 use std::sync::Arc;
 
-/// What came of a lease of a replica, under its program or a foreign one.
+/// What came of a lease of a replica, under the replica's program or a foreign one.
 #[derive(Drop)]
 pub struct Return {
     pub replica: u64,
@@ -24,13 +24,18 @@ pub struct Return {
     pub is_foreign: bool,
 }
 
-/// A world, its model, a foreign program, what came of leases, and what has happened.
+/// A world and what the game knows of it.
 #[derive(Drop)]
 pub struct Game {
+    /// The world.
     pub world: World,
+    /// Its model.
     pub scene: Scene,
+    /// Another program, to which no replica of the world belongs.
     pub foreign: Arc<Accepted>,
+    /// What came of leases.
     pub returns: Vec<Return>,
+    /// How often what is worth a test has happened.
     pub seen: Seen,
 }
 
@@ -54,7 +59,7 @@ fn done(rt: &impl Abort, alloc: Global, program: &Accepted, part: &Part) -> Done
     program.rest_part(alloc, lease).ok().expect(rt, "memory")
 }
 
-/// What the replica is to reply to the act, any but a cut into parts.
+/// What the replica is to reply to the act, which does not cut its pool into parts.
 fn expected(
     rt: &impl Abort,
     alloc: Global,
@@ -90,7 +95,7 @@ fn expected_of(
     Some(expected(rt, alloc, family, replica, act, is_foreign))
 }
 
-/// The world answers with the reply that is expected.
+/// The world answers with the expected reply.
 fn compare(rt: &impl Abort, alloc: Global, answer: &Answer, expected: &Expected) {
     let is_same = match answer {
         Answer::Replied(reply) => is_reply(rt, alloc, reply, expected),
@@ -106,7 +111,7 @@ fn is_unknown(rt: &impl Abort, alloc: Global, family: Family, act: &Act) -> bool
     matches!(&refused, Expected::Refused(Refusal::UnknownSymbol))
 }
 
-/// Nobody replies, but of an unknown symbol it is told.
+/// Whether no replica replied: of an unknown symbol the answer says so, and else that nobody is there.
 fn is_nobody(answer: &Answer, is_unknown: bool) -> bool {
     match answer {
         Answer::NoReplica => !is_unknown,
@@ -199,7 +204,7 @@ fn keep(rt: &impl Abort, returns: &mut Vec<Return>, replica: u64, done: Done, is
     returns.push(kept).expect(rt, "memory");
 }
 
-/// The parts that these leases are, where they have the next numbers and even sizes and are the whole pool together.
+/// The parts of these leases, which have the next numbers and even sizes, and make up the whole pool.
 fn leased_parts(
     rt: &impl Abort,
     alloc: Global,
@@ -238,7 +243,7 @@ fn one_of_last<'a>(scene: &mut Scene, returns: &'a [Return]) -> Option<&'a Retur
     one_of(&mut scene.random, last)
 }
 
-/// To whom what came of a lease goes, mostly to the replica that leased it, and whether it is foreign.
+/// A replica to which what came of a lease is sent, mostly the one that leased it, the act, and whether it is foreign.
 fn sent(rt: &impl Abort, alloc: Global, scene: &mut Scene, back: &Return) -> (u64, Act, bool) {
     let other = scene.somebody();
     let number = if scene.random.below(5) == 0 {
@@ -250,7 +255,7 @@ fn sent(rt: &impl Abort, alloc: Global, scene: &mut Scene, back: &Return) -> (u6
     (number, Act::Put(copy), back.is_foreign)
 }
 
-/// Has the whole pool of a replica leased out in so many parts, where it is there.
+/// Has the whole pool of a replica leased out in `parts` parts, where there is such a replica.
 fn cut(
     rt: &impl Abort,
     alloc: Global,
@@ -303,7 +308,8 @@ impl Game {
         assert!(rt; is_nobody(&answer, is_unknown), "somebody replies");
     }
 
-    /// Rests a leased part under the replicas' program, whose end has to be the model's, and under a foreign one.
+    /// Rests a leased part under the replicas' program, where it has to end as the model's does, and under the foreign
+    /// one.
     fn work(&mut self, rt: &impl Abort, alloc: Global, replica: u64, part: &Part) {
         let own = done(rt, alloc, self.world.program(), part);
         let is_same = ends_as_modelled(rt, alloc, self.scene.family, &own, part);

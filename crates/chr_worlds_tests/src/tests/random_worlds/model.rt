@@ -23,7 +23,7 @@ pub struct Part {
     pub atoms: Vec<Atom>,
 }
 
-/// What is to be replied.
+/// What a replica is to reply.
 #[derive(Drop)]
 pub enum Expected {
     Told(Added),
@@ -49,13 +49,17 @@ impl Expected {
 
 #[derive(Drop)]
 pub struct Replica {
+    /// The operations that it was told.
     pub operations: Vec<Operation>,
+    /// The atoms that are not leased out.
     pub pool: Vec<Atom>,
+    /// The parts that are leased out.
     pub out: Vec<Part>,
+    /// The next lease number.
     pub next: u64,
 }
 
-/// How many, as a number of 64 bits.
+/// The number of items.
 pub fn count<T>(items: &[T]) -> u64 {
     u64::try_from(items.len()).unwrap_or(u64::MAX)
 }
@@ -70,7 +74,7 @@ fn held_in(operations: &[Operation], id: OpId) -> Option<&Operation> {
     None
 }
 
-/// The place of the part of a number.
+/// The place of the part with a number.
 fn place_of(parts: &[Part], number: u64) -> Option<usize> {
     for (place, part) in parts.iter().enumerate() {
         if part.number == number {
@@ -80,7 +84,7 @@ fn place_of(parts: &[Part], number: u64) -> Option<usize> {
     None
 }
 
-/// Takes the part of a number out.
+/// Takes the part with a number out of a list.
 fn remove(parts: &mut Vec<Part>, number: u64) {
     match place_of(parts, number) {
         Some(place) if place < parts.len() => {
@@ -203,7 +207,7 @@ impl Replica {
         Expected::Merged(count(&self.operations).saturating_sub(before))
     }
 
-    /// What the pool is after a rule was applied to two of its atoms, where it applies and both are there.
+    /// The pool after a rule was applied to two of its atoms, where the rule applies to them and both are there.
     fn pool_after(
         &self,
         rt: &impl Abort,
@@ -306,7 +310,7 @@ impl Replica {
         Expected::Recalled
     }
 
-    /// Each step leaves one atom fewer.
+    /// Takes steps until the pool is at rest. Each leaves one atom fewer.
     pub fn settle(&mut self, rt: &impl Abort, alloc: Global, family: Family) -> Expected {
         let before = count(&self.pool);
         self.pool = rested(rt, alloc, family, &self.pool);

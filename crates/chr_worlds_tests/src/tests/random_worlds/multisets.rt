@@ -15,7 +15,7 @@ pub fn add(rt: &impl Abort, to: &mut Vec<Atom>, atoms: &[Atom]) {
     }
 }
 
-/// The place of the first atom that is equal.
+/// The place of the first atom that is equal to this one.
 fn place_of(atoms: &[Atom], atom: &Atom) -> Option<usize> {
     for (place, other) in atoms.iter().enumerate() {
         if other == atom {
@@ -25,7 +25,7 @@ fn place_of(atoms: &[Atom], atom: &Atom) -> Option<usize> {
     None
 }
 
-/// The first atom that is equal is taken out, where there is one.
+/// Takes out the first atom that is equal to this one. Answers whether there was one.
 fn take_one(from: &mut Vec<Atom>, atom: &Atom) -> bool {
     match place_of(from, atom) {
         Some(place) if place < from.len() => {
@@ -36,7 +36,7 @@ fn take_one(from: &mut Vec<Atom>, atom: &Atom) -> bool {
     }
 }
 
-/// What is left when these atoms are taken out, one for one; None where they aren't all there.
+/// What is left when these atoms are taken out, one for one, or nothing where they aren't all there.
 pub fn without(
     rt: &impl Abort,
     alloc: Global,

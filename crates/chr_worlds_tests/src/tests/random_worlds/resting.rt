@@ -1,11 +1,11 @@
-//! Stores come to rest by trying each rule on each two places.
+//! Brings stores to rest by trying each rule on the atoms of each two places.
 use crate::tests::random_worlds::family::Family;
 use crate::tests::random_worlds::multisets::copies;
 use chr_base::atom::Atom;
 use std::alloc::Global;
 use std::process::Abort;
 
-/// The atom that some rule puts in the place of the two.
+/// The atom that some rule puts in the place of two.
 fn united(family: Family, first: &Atom, second: &Atom) -> Option<Atom> {
     match family.united(1, first, second) {
         Some(atom) => Some(atom),
@@ -13,7 +13,7 @@ fn united(family: Family, first: &Atom, second: &Atom) -> Option<Atom> {
     }
 }
 
-/// A step whose first head is the atom at this place: the place of its second head, and what the two become.
+/// A step whose first head is the atom at this place: the place of its second head, and the atom that the two become.
 fn step_at(family: Family, atoms: &[Atom], first: usize, head: &Atom) -> Option<(usize, Atom)> {
     for (second, other) in atoms.iter().enumerate() {
         if first != second {
@@ -25,7 +25,7 @@ fn step_at(family: Family, atoms: &[Atom], first: usize, head: &Atom) -> Option<
     None
 }
 
-/// A step: the places of its heads, and what the two become.
+/// A step: the places of its heads, and the atom that the two become.
 fn find(family: Family, atoms: &[Atom]) -> Option<(usize, usize, Atom)> {
     for (first, head) in atoms.iter().enumerate() {
         if let Some((second, atom)) = step_at(family, atoms, first, head) {
@@ -39,7 +39,7 @@ pub fn is_at_rest(family: Family, atoms: &[Atom]) -> bool {
     find(family, atoms).is_none()
 }
 
-/// The atoms at all places but these two, and what the two become.
+/// The atoms at all places but these two, and the atom that the two become.
 fn after(
     rt: &impl Abort,
     alloc: Global,

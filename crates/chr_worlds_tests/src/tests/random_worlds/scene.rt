@@ -12,12 +12,16 @@ use chr_testing::atoms::step;
 use std::alloc::Global;
 use std::process::Abort;
 
-/// The model of a world, and the operations that it was told as yet.
+/// The model of a world, and by what its events are drawn.
 #[derive(Drop)]
 pub struct Scene {
+    /// The meaning of the program.
     pub family: Family,
+    /// The replicas of the model.
     pub replicas: Vec<Replica>,
+    /// The operations that were made so far.
     pub issued: Vec<Op>,
+    /// By what events are drawn.
     pub random: Random,
 }
 
@@ -77,7 +81,7 @@ fn atom_among(family: Family, random: &mut Random, atoms: &[Atom]) -> Atom {
     }
 }
 
-/// The number of one of so many replicas, or now and then of none.
+/// The number of one of `replicas` replicas, or now and then of none.
 fn number_among(random: &mut Random, replicas: u64) -> u64 {
     let replicas = replicas.min(1_000);
     match random.below(25) {
@@ -88,7 +92,7 @@ fn number_among(random: &mut Random, replicas: u64) -> u64 {
 }
 
 impl Scene {
-    /// The number of a replica, or now and then of none.
+    /// The number of a replica, or now and then one that none has.
     pub fn somebody(&mut self) -> u64 {
         number_among(&mut self.random, count(&self.replicas))
     }
@@ -172,7 +176,7 @@ impl Scene {
         }
     }
 
-    /// Some operations, in any order, also doubled.
+    /// Several operations, in any order, some of them twice.
     fn delta(&mut self, rt: &impl Abort, alloc: Global, number: u64) -> OpList {
         let mut ops = Vec::new(alloc);
         for _ in 0..self.random.below(6) {

@@ -5,13 +5,21 @@ use chr_replica::Refusal;
 
 #[derive(Clone, Copy, Default)]
 pub struct Seen {
+    /// Operations that were told again.
     again: u64,
+    /// Operations that clashed.
     clashes: u64,
+    /// Steps that were taken.
     steps: u64,
+    /// Results of leases that were put back.
     puts: u64,
+    /// Results that came too late.
     late: u64,
+    /// Results that came of a foreign program.
     foreign: u64,
+    /// Leases that were recalled.
     recalls: u64,
+    /// Events of replicas that are not there.
     absent: u64,
 }
 
@@ -27,7 +35,7 @@ impl Seen {
         seen
     }
 
-    /// With one reply more.
+    /// The counts with one reply more.
     pub fn with(self, reply: &Expected) -> Seen {
         let mut seen = self;
         match reply {
@@ -41,14 +49,14 @@ impl Seen {
         seen
     }
 
-    /// With one more event of a replica that isn't there.
+    /// The counts with one more event of a replica that isn't there.
     pub fn with_absent(self) -> Seen {
         let mut seen = self;
         seen.absent = seen.absent.saturating_add(1);
         seen
     }
 
-    /// Whether each kind came at least so often.
+    /// Whether each kind came at least `times` times.
     pub fn is_varied(self, times: u64) -> bool {
         let replies = self.again.min(self.clashes).min(self.steps).min(self.puts);
         let others = self
