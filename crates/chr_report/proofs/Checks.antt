@@ -11,7 +11,7 @@ use Rattle.chr_report.specs.Lines.{lines, commands_of}
 use Rattle.chr_report.specs.Outputs.{IsReadOutput, accepted_text}
 use Rattle.chr_report.specs.Laws.{ChecksBeginRuns}
 
--- an output, of which the first part is one without commands
+-- a text that begins with a verdict, after which come answers
 abbrev Begins : (List ℕ → Type 0) → List ℕ → Type 0
 Begins IsVerdict out = (verdict : List ℕ) × (answers : List ℕ) × (out ≡ verdict ++ answers) × IsVerdict verdict
 

@@ -48,7 +48,7 @@ some_input (Some x) = (x, refl)
 
 -- ---- the lines of a conversation
 
--- the front of both
+-- the lines that were answered before a chunk and those that are answered in it
 joined : (first bytes chunk front line more left : List ℕ) → first ++ bytes ≡ front ++ line → line ++ chunk ≡ more
     ++ left → first ++ (bytes ++ chunk) ≡ (front ++ more) ++ left
 joined first bytes chunk front line more left e f =
@@ -56,7 +56,7 @@ joined first bytes chunk front line more left e f =
     ∙ ap (λ r. front ++ r) f ∙ sym (append_assoc front more left)
 
 module _ (ds : List Declaration) (rules : List Rule) where
-  -- the bytes that were read first
+  -- the bytes that were read first are answered
   pub starts : (first left : List ℕ) (from : Option (List ℕ)) (start now : List Operations) (old new : Option (List ℕ))
       → AnswersChunk ds rules first left start now old new
       → AnswersFrontRead ds rules first from from left start now old new
@@ -85,7 +85,7 @@ module _ (ds : List Declaration) (rules : List Rule) where
     };
   }
 
-  -- the end of the input, with the answer of the last line written
+  -- the input has ended, and the answer of the last line is written
   pub ended : (first line : List ℕ) (from to : Option (List ℕ)) (start mid now : List Operations)
       (old middle new : Option (List ℕ)) → AnswersFrontRead ds rules first from to line start mid old middle
       → IsAtEnd to
@@ -116,7 +116,7 @@ module _ (ds : List Declaration) (rules : List Rule) where
     is_written = part_after old middle new _ _ s.chunk.written w.is_written;
   }
 
-  -- a read that gave nothing
+  -- where a read gave nothing, the answers are as before it
   pub at_end : (first line buf : List ℕ) (n : ℕ) (from to next : Option (List ℕ)) (start now : List Operations)
       (old new : Option (List ℕ)) → n ≡ 0 → AnswersFrontRead ds rules first from to line start now old new
       → Consumes to next (take n buf)
@@ -131,7 +131,7 @@ module _ (ds : List Declaration) (rules : List Rule) where
   -- ---- faults
 
   module _ (exist : AnswersExist) (lowers : AreLowering (weight_by ds) rules) where
-    -- what comes after whole lines has answers too
+    -- what was written of the answers of whole lines begins the answers of all the input
     pub breaks_off : (first bytes front rest out : List ℕ) (from to : Option (List ℕ)) (start now : List Operations)
         (old new : Option (List ℕ)) → Consumes from to bytes → first ++ bytes ≡ front ++ rest
         → AnswersFront ds rules front start out now → AppendsPart old new out → AnswersInput ds rules first from start
@@ -239,7 +239,7 @@ module _ (p : Program) (wanted : Wanted) (start : List Operations) (verdict : Li
       } in
       inr (status.Accepted, part)
 
-  -- while it is waited
+  -- while the peer is waited for, the verdict and the answers of whole lines are written
   pub commands_answered : (first line : List ℕ) (from to : Option (List ℕ)) (now : List Operations)
       (old middle new : Option (List ℕ)) → Appends old middle verdict
       → AnswersFrontRead (declarations p) (rules_of p) first from to line start now middle new

@@ -57,7 +57,7 @@ pub take_front : (xs ys : List ℕ) → take (length (xs ++ ys) - length ys) (xs
 take_front xs ys = let e : length (xs ++ ys) - length ys ≡ length xs = simp length-append (omega arith) in
     rw e (take-append_seam xs ys)
 
--- at the divider
+-- the program text ends at the divider
 pub cut_text : (input : List ℕ) (next : Option (Bor (List ℕ))) (rest : Bor (List ℕ)) (line : List ℕ)
     (more : Option (Bor (List ℕ))) → Cut input next → next ≡ Some rest → lines rest.now ≡ line ∷ lines_left more
     → is_divider line ≡ true
@@ -72,7 +72,7 @@ cut_text input next rest line more c is split found =
       c.commands ∙ ap commands_of first ∙ commands_here line (lines_left more) found,
     )
 
--- no divider
+-- where there is no divider, all is program text
 pub cut_none : (input : List ℕ) (next : Option (Bor (List ℕ))) → Cut input next → next ≡ None
     → (input ≡ text_of (lines input)) × (commands_of (lines input) ≡ [])
 cut_none input next c e = (

@@ -17,7 +17,7 @@ none_at : (b : Bool) (n x : ℕ) (xs : List ℕ) → (x == 10) ≡ b → HasNoFe
 none_at true n x xs e h = tt
 none_at false n x xs e h = let one : suc n ≡ 1 + n = omega arith in subst (λ m. HasNoFeed (take m (x ∷ xs))) one (e, h)
 
--- none stands before the first
+-- no line feed stands before the first one
 pub first_has_none : (t : List ℕ) → HasNoFeed (take (position_or_len (λ b. b == 10) t) t)
 first_has_none [] = tt
 first_has_none (x ∷ xs) = none_at (x == 10) (position_or_len (λ b. b == 10) xs) x xs refl (first_has_none xs)
@@ -36,7 +36,7 @@ lines_last (b ∷ bs) h = rw h.0 (ap (onto_first b) (lines_last bs h.1))
 
 -- ---- whole lines
 
--- one line more
+-- whole lines go on with one line more
 pub ended_more : (front line more : List ℕ) → (front ++ (line ++ 10 ∷ [])) ++ more ≡ front ++ (line ++ 10 ∷ more)
 ended_more front line more = append_assoc front (line ++ 10 ∷ []) more
     ∙ ap (λ m. front ++ m) (append_assoc line (10 ∷ []) more)
@@ -70,7 +70,7 @@ none_left : (line : List ℕ) → AreWholeLines line → HasNoFeed line → line
 none_left line (inl e) h = e
 none_left line (inr (bytes, e)) h = absurd (some_feed bytes (subst HasNoFeed e h))
 
--- so there are none after them in which no line ends
+-- after whole lines nothing comes in which no line ends
 pub whole_left : (front line : List ℕ) → AreWholeLines (front ++ line) → HasNoFeed line → line ≡ []
 whole_left front line w h = none_left line (whole_after front line w) h
 
@@ -93,7 +93,7 @@ none_after text k h = none_from text (k + 1) h.after
 pub none_ends : (text : List ℕ) → Nowhere (Passes (is_byte 10) text) 0 (length text) → HasNoFeed text
 none_ends text h = none_from text 0 h
 
--- and up to it are whole lines
+-- up to the last line feed there are whole lines
 pub whole_up_to : (text : List ℕ) (k : ℕ) → k < length text → Passes (is_byte 10) text k
     → AreWholeLines (take (k + 1) text)
 whole_up_to text k l p =

@@ -26,7 +26,7 @@ use Rattle.chr_report.specs.declared.request.Request.TheVariants as request
 use Rattle.chr_report.specs.working.Gathered.{AreRested, IsGathered, ReachTogether, TellFirst}
 use Rattle.chr_report.specs.working.Requests.{AsksFirst}
 
--- no line yet
+-- no line tells anything yet
 pub nothing_told : (p : Program) (text : List ℕ) (r left : ℕ) (ops : List Operation) → ops ≡ []
     → TellFirst p text r left ops left
 nothing_told p text r left ops none = subst (λ os. TellFirst p text r left os left) (sym none) refl
@@ -46,7 +46,7 @@ tell_one_more p text r left [] mid op more h asks =
 tell_one_more p text r left (o ∷ ops) mid op more h asks =
     (h.0, h.1, tell_one_more p text r h.0 ops mid op more h.2 asks)
 
--- none are told to any replica
+-- where no operations are told, they are told to any replica
 tell_another : (p : Program) (text : List ℕ) (q r left : ℕ) (ops : List Operation) (more : ℕ)
     → (ops ≡ []) ⊎ (q ≡ r) → TellFirst p text q left ops more → TellFirst p text r left ops more
 tell_another p text q r left ops more (inl none) h =
@@ -60,7 +60,7 @@ tell_more : (p : Program) (text : List ℕ) (q r left : ℕ) (ops : List Operati
 tell_more p text q r left ops mid op more to h asks =
     tell_one_more p text r left ops mid op more (tell_another p text q r left ops mid to h) asks
 
--- fewer bytes are left then
+-- lines that tell operations leave fewer bytes
 tells_shorter : (p : Program) (text : List ℕ) (r left : ℕ) (ops : List Operation) (more : ℕ)
     → TellFirst p text r left ops more → more + length ops ≤ left
 tells_shorter p text r left [] more h = omega (arith, h)
@@ -74,7 +74,7 @@ pub some_shorter : (p : Program) (text : List ℕ) (r left : ℕ) (ops : List Op
 some_shorter p text r left ops more h some = let less = tells_shorter p text r left ops more h in
     omega (arith, less, some)
 
--- their atoms are the program's
+-- the program declares the operations that lines tell
 pub tells_declared : (p : Program) (text : List ℕ) (r left : ℕ) (ops : List Operation) (more : ℕ)
     → TellFirst p text r left ops more → All (IsDeclared p) ops
 tells_declared p text r left [] more h = All-nil (IsDeclared p)
@@ -90,7 +90,7 @@ pub sum_more : (ops : List Operation) (i : ℕ) (o : Operation) → i < length o
 sum_more ops i o there is =
     ap sum_of (take_more ops i o there ∙ ap (λ y. take i ops ++ y ∷ []) (sym is)) ∙ sum_push (take i ops) o
 
--- one operation more is put in
+-- an operation more is reached, after its atoms were put into the pool
 reach_more : (p : Program) (before : Store) (ops : List Operation) (op : Operation) (s t : Store) → t ≡ s ⊕ op.1
     → ReachTogether p before ops s → ReachTogether p before (ops ++ op ∷ []) t
 reach_more p before ops op s t put h =
@@ -99,7 +99,7 @@ reach_more p before ops op s t put h =
     (plus_assoc before (sum_of ops) op.1 ∙ ap (λ u. before ⊕ u) (sym (sum_push ops op)))
     (Reaches-grows (rules_of p) (before ⊕ sum_of ops) s op.1 h))
 
--- they are what a replica is told, with what was carried to them
+-- operations that were rested are what a replica is told, with the part that was carried to them
 pub rested_by : (p : Program) (t : Tells) (r : RestedOps) → r.ops.now ≡ t.ops.items
     → carried_store r.carried ≡ t.carried.part → r.rested.now ≡ t.rested → AreRested p t → AreRestedBy p r
 rested_by p t r ops part same h = record {
@@ -108,7 +108,7 @@ rested_by p t r ops part same h = record {
       (subst (λ s. Reaches (Step (rules_of p)) s t.rested) (λ i. sym part i ⊕ sum_of (sym ops i)) h.reached);
 }
 
--- or as they are
+-- operations that were rested are what a replica is told, without what was made of their atoms
 pub unrested_by : (p : Program) (t : Tells) (r : RestedOps) → r.ops.now ≡ t.ops.items → r.carried ≡ None
     → r.rested.now ≡ sum_of t.ops.items → AreRested p t → AreRestedBy p r
 unrested_by p t r ops none same h = record {
@@ -119,12 +119,12 @@ unrested_by p t r ops none same h = record {
       (reaches_itself (Step (rules_of p)) r.rested.now);
 }
 
--- steps are taken
+-- what is reached goes on by steps
 reach_on : (p : Program) (before : Store) (ops : List Operation) (s t : Store) → ReachTogether p before ops s
     → Reaches (Step (rules_of p)) s t → ReachTogether p before ops t
 reach_on p before ops s t h g = reaches_on (Step (rules_of p)) (before ⊕ sum_of ops) s t h g
 
--- the pool comes to rest
+-- the pool of the lines that were read comes to rest
 pub gathering_rests : (p : Program) (text : List ℕ) (g h : Gathering) (n : ℕ)
     → TookSteps (program_of g.pool.weighed) n g.pool.store h.pool.store → h.pool.weighed ≡ g.pool.weighed
     → h.left ≡ g.left → h.more ≡ g.more → h.replica ≡ g.replica → h.ops ≡ g.ops
@@ -145,7 +145,7 @@ gathering_rests p text g h n took weighed left more replica ops carried is =
           (took_reaches p n g.pool.store h.pool.store steps)));
     }
 
--- one line more is told
+-- one more line is read that tells an operation
 pub gathers_more : (p : Program) (text : List ℕ) (g h : Gathering) (op : Operation)
     → (g.ops.items ≡ []) ⊎ (g.replica ≡ h.replica) → AsksFirst p text g.more h.more (request.Tell h.replica op)
     → h.left ≡ g.left → h.ops.items ≡ g.ops.items ++ op ∷ [] → h.pool.weighed ≡ g.pool.weighed

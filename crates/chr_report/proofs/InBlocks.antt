@@ -37,7 +37,7 @@ reads_both from mid to first left more r s = record {
   read = Consumes-trans from mid to r.bytes s.bytes r.read s.read;
 }
 
--- they are read after others
+-- bytes are read on after others
 pub reads_after : (from to : Option (List ℕ)) (others left more : List ℕ) → ReadsOn from to left more
     → ReadsOn from to (others ++ left) (others ++ more)
 reads_after from to others left more r = record {
@@ -49,7 +49,7 @@ reads_after from to others left more r = record {
 -- ---- answers
 
 module _ (ds : List Declaration) (rules : List Rule) where
-  -- nothing is answered
+  -- nothing is answered yet
   pub none_answered : (first left : List ℕ) (from : Option (List ℕ)) (start : List Operations) (before : List ℕ)
       → left ≡ first → AnswersUpTo ds rules first from from left start start before before
   none_answered first left from start before e = record {
@@ -78,7 +78,7 @@ module _ (ds : List Declaration) (rules : List Rule) where
       written = s.written;
     }
 
-    -- the lines with which it begins are answered
+    -- the lines with which what is left begins are answered
     pub front_answered : (front rest : List ℕ) (next : List Operations) (out after : List ℕ) → left ≡ front ++ rest
         → AnswersFront ds rules front now out next → after ≡ middle ++ out
         → AnswersUpTo ds rules first from mid rest start next before after
@@ -92,7 +92,7 @@ module _ (ds : List Declaration) (rules : List Rule) where
       written = w ∙ ap (λ o. o ++ out) s.written ∙ append_assoc before s.out out;
     }
 
-    -- all bytes are read, and what is left is answered
+    -- all bytes are read, and what was left is answered
     pub input_answered : (after : List ℕ) → IsAtEnd mid → AnswersRest ds rules (lines left) now middle after
         → AnswersInput ds rules first from start (Appends (Some before) (Some after))
     input_answered after e a = record {
@@ -106,7 +106,7 @@ module _ (ds : List Declaration) (rules : List Rule) where
 
 -- ---- blocks
 
--- one block more
+-- the lines of blocks, with one block more at the end
 pub lines_after : (bs : List Block) (b : Block)
     → lines_of_all (bs ++ b ∷ []) ≡ lines_of_all bs ++ lines_of b
 lines_after [] b = append-nil (lines_of b)
@@ -114,7 +114,7 @@ lines_after (c ∷ bs) b =
     ap (λ l. lines_of c ++ l) (lines_after bs b)
     ∙ sym (append_assoc (lines_of c) (lines_of_all bs) (lines_of b))
 
--- what is left of them, after one block more was read
+-- what is left of blocks after one block more was read
 pub left_after : (from to : Option (List ℕ)) (bs : List Block) (b : Block)
     (begun room next : List ℕ) → ReadsOn from to begun room → lines_of b ++ next ≡ room
     → ReadsOn from to (lines_of_all bs ++ begun) (lines_of_all (bs ++ b ∷ []) ++ next)
@@ -136,7 +136,7 @@ blocks_both from mid to s t u r q = record {
 }
 
 module _ (s t : Blocks) (begun : t.begun ≡ s.begun) (ended : t.ended ≡ s.ended) (whole : AreWhole s) where
-  -- no block waits
+  -- where no block waits, nothing is answered
   pub none_first : t.at ≡ s.at → blocks_of s ≡ blocks_of t → IsBetweenLines s.at.service → AnswersFirst s t
   none_first at same ready =
       let ds = declarations (served s.at.service) in
@@ -155,7 +155,7 @@ module _ (s t : Blocks) (begun : t.begun ≡ s.begun) (ended : t.ended ≡ s.end
         ended = ended;
       }
 
-  -- the lines of the first one are answered
+  -- the lines of the first block are answered
   pub first_answered : (b : Block) (out : List ℕ) → blocks_of s ≡ b ∷ blocks_of t → IsBetweenLines t.at.service
       → served t.at.service ≡ served s.at.service
       → AnswersFront (declarations (served s.at.service)) (rules_of (served s.at.service)) (lines_of b)
@@ -192,7 +192,7 @@ module _ (p : Program) (first : List ℕ) (from mid : Option (List ℕ)) (start 
         end = r.end is.end;
       }
 
-  -- the lines of the first one are answered
+  -- the first bytes stay answered in part, where the lines of the first block are answered
   pub answers_in_blocks : AnswersFirst s t → IsInBlocks p first from mid start before t
   answers_in_blocks a = record {
     ready = a.ready;
@@ -205,7 +205,7 @@ module _ (p : Program) (first : List ℕ) (from mid : Option (List ℕ)) (start 
     end = subst (λ e. OnTrue e (IsAtEnd mid)) (sym a.ended) is.end;
   }
 
--- all is read, no block waits, and what comes after them is answered
+-- the input is answered where all is read, no block waits, and what comes after the last block is answered
 pub ends_in_blocks : (p : Program) (first : List ℕ) (from to : Option (List ℕ)) (start : List Operations)
     (before after : List ℕ) (s : Blocks) → IsInBlocks p first from to start before s → s.ended ≡ true
     → blocks_of s ≡ []

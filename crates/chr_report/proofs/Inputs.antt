@@ -29,7 +29,7 @@ use Rattle.chr_report.proofs.Conversing.{some_left}
 use Rattle.chr_report.proofs.Feeds.{whole_both}
 use Rattle.chr_report.proofs.LineLaws.{some_line}
 
--- nothing is written
+-- where nothing is written, a writer holds what it held
 pub unwritten : (old new : Option (List ℕ)) → new ≡ old → Appends old new []
 unwritten old new e = subst (λ n. Appends old n []) (sym e) (Appends-nil old)
 
@@ -44,7 +44,7 @@ output_divided text front more out wanted answer status d a h = (
   subst (λ cs. IsReadOutput answer wanted cs status out) (sym (d.commands more)) h,
 )
 
--- all that the reader had
+-- bytes that were read, and all that the reader has then, are all that it had
 all_read : (from to : Option (List ℕ)) (bytes input : List ℕ) → Consumes from to bytes → IfSome to (λ all. input ≡ all)
     → IfSome from (λ all. bytes ++ input ≡ all)
 all_read None to bytes input c i = tt
@@ -190,7 +190,7 @@ text_too_long bytes more u l =
     rw text (long_enough (length bytes) (length u.front) (length u.line) _ _ l size sum
     (text_longer (is_divider (u.line ++ f.0)) u.line f.0 f.1 refl))
 
--- its line, whatever comes after it
+-- the line of a text that is too long is that of any longer beginning of the input
 pub too_long_output : (verb : Verb) (short long out : List ℕ) (wanted : Wanted) (status : Status)
     → MAX_TEXT < length (text_of (lines short)) → MAX_TEXT < length (text_of (lines long))
     → IsOutput verb wanted short status out → IsOutput verb wanted long status out
@@ -232,7 +232,7 @@ IsRefusal Refused = ⊤
 pub not_accepted : {P : Type 0} (s : Status) → s ≡ Refused → s ≡ Accepted → P
 not_accepted s e f = absurd (subst IsRefusal (sym e ∙ f) tt)
 
--- its program is refused
+-- a program whose text is too long is refused
 too_long_refused : (input out : List ℕ) (wanted : Wanted) (status : Status) → MAX_TEXT < length (text_of (lines input))
     → IsOutput Run wanted input status out → status ≡ Refused
 too_long_refused input out wanted status l (Ok p, a, h) = let fits = a.0 in absurd (omega (arith, l, fits))
@@ -247,13 +247,13 @@ long_refused bytes wanted status IsWritten u l w =
 
 -- ---- reads
 
--- a read that gave nothing
+-- a read that gave nothing leaves the bytes that were read
 pub read_nothing : (from to next : Option (List ℕ)) (bytes buf : List ℕ) (n : ℕ) → n ≡ 0 → Consumes from to bytes
     → Consumes to next (take n buf) → Consumes from next bytes
 read_nothing from to next bytes buf n e c d = subst (Consumes from next) (append-nil bytes)
     (Consumes-trans from to next bytes [] c (subst (λ m. Consumes to next (take m buf)) e d))
 
--- bytes that were read are kept
+-- bytes that are read after others are kept with these
 pub read_more : (from to next : Option (List ℕ)) (bytes more all : List ℕ) → all ≡ bytes ++ more
     → Consumes from to bytes → Consumes to next more → Consumes from next all
 read_more from to next bytes more all e c d = subst (Consumes from next) (sym e)

@@ -11,7 +11,7 @@ use Rattle.chr_report.specs.Outputs.{Decides, IsOutput}
 use Rattle.chr_report.specs.working.Divided.{IsUndivided}
 use Rattle.chr_report.proofs.Inputs.{read_more, text_too_long, too_long_output}
 
--- all that is read
+-- all that is read decides the output
 all_decide : (from to : Option (List ℕ)) (kept : List ℕ) → Consumes from to kept → IsAtEnd to
     → IfSome from (Decides kept)
 all_decide None to kept c e = tt
@@ -31,7 +31,7 @@ pub all_are_read : (ended : Bool) (next : Option (List ℕ)) (kept : List ℕ) �
 all_are_read true next kept l e m = e
 all_are_read false next kept l e m = absurd (omega (arith, l, m))
 
--- the beginning of a text that is too long
+-- the beginning of a text that is too long decides the output
 long_decides : (from to : Option (List ℕ)) (kept : List ℕ) → Consumes from to kept → MAX_TEXT + 4 < length kept
     → IsUndivided kept → IfSome from (Decides kept)
 long_decides None to kept c l u = tt
@@ -53,12 +53,13 @@ pub beginning_decides : (from to : Option (List ℕ)) (start kept : List ℕ) �
 beginning_decides from to start kept s r l =
     long_decides from to kept (all_consumed from to start kept s r) l.0 l.1
 
--- all of an input
+-- all of an input decides the output
 pub all_kept_decide : (from to : Option (List ℕ)) (start kept : List ℕ) → start ≡ [] → ReadsOn from to start kept
     → IsAtEnd to → IfSome from (Decides kept)
 all_kept_decide from to start kept s r e = all_decide from to kept (all_consumed from to start kept s r) e
 
--- an input, or a beginning of it, in which no text has ended
+-- an input, or a beginning of it, in which the program text has not ended, decides the output if all is read or the
+-- text is too long
 pub undivided_decides : (ended : Bool) (from to : Option (List ℕ)) (start kept : List ℕ) → start ≡ []
     → ReadsOn from to start kept → OnTrue ended (IsAtEnd to) → OnFalse ended (MAX_TEXT + 4 < length kept)
     → IsUndivided kept → IfSome from (Decides kept)

@@ -29,7 +29,7 @@ split_at_feed t l =
 pub lines_are_the_input : LinesAreTheInput
 lines_are_the_input input = join_with_byte-slice_split 10 input
 
--- there is always a line
+-- an input has at least one line
 pub some_line : (r : List ℕ) → (l : List ℕ) × (ls : List (List ℕ)) × (lines r ≡ l ∷ ls)
 some_line [] = ([], [], refl)
 some_line (b ∷ bs) = by (b == 10) (lines bs)

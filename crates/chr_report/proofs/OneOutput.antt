@@ -56,7 +56,7 @@ rule_at (r ∷ rules) zero l = (r, refl)
 rule_at (r ∷ rules) (suc i) l = rule_at rules i (omega (arith, l))
 
 module _ (ds : List Declaration) (rules : List Rule) where
-  -- the rule that is told doesn't lower
+  -- a rule that is told as the first that does not lower does not
   not_lowered : (i : ℕ) (b a : Weight) → IsFirstNotLowered ds rules i b a → (r : Rule) → slice_get rules (i - 1)
       ≡ Some r → IsLowering (weight_by ds) r → ⊥
   not_lowered i b a h r e lowers =
@@ -156,7 +156,7 @@ module _ (ds : List Declaration) (rules : List Rule) where
   rules_output laws wanted commands Refused Refused out out' (inr h) (inr g) =
       (refl, by_overlaps laws wanted.coverage out out' h g)
 
--- programs of one meaning
+-- programs of one meaning have one output
 same_output : VerdictLaws → (p q : Program) → meaning_of p ≡ meaning_of q → (wanted : Wanted) (commands : List (List ℕ))
     (s s' : Status) (out out' : List ℕ) → IsReadOutput (Ok p) wanted commands s out
     → IsReadOutput (Ok q) wanted commands s' out' → (s ≡ s') × (out ≡ out')
@@ -172,7 +172,7 @@ same_output laws p q e wanted commands s s' out out' h g =
 long : {A : Type 0} (text : List ℕ) → 65536 < length text → IsShort text → A
 long text l m = absurd (omega (arith, l, m))
 
--- two answers of one text
+-- two answers of one text lead to one output
 one_of_text : VerdictLaws → (text : List ℕ) (wanted : Wanted) (commands : List (List ℕ)) (s s' : Status)
     (out out' : List ℕ) (a b : Result Program ReadFault) → IsAnswer text a → IsAnswer text b
     → IsReadOutput a wanted commands s out → IsReadOutput b wanted commands s' out' → (s ≡ s') × (out ≡ out')

@@ -62,11 +62,11 @@ pub operations_values : (ds : List Declaration) (os : List NamedOperation) → A
 operations_values ds os h = if_each OperationFits (λ (p : Operation). HasValues p.1) (declared_operation ds)
     (operation_values ds) os h
 
--- an operation more
+-- a set has values after an operation with values was told
 pub told_values : (old : Operations) (k : OpId) (s : Store) → finite.get old k ≡ None → HasValues (told_store old)
     → HasValues s → HasValues (told_store (finite.insert old k s))
 told_values old k s new h g = rw (told_store-insert old k s new) (each_plus (args_in is_value) (told_store old) s h g)
 
--- none at all
+-- a set of no operations has values
 pub nothing_told : HasValues (told_store finite.empty)
 nothing_told = rw told_store-empty (λ q g. (let e = count_empty q in absurd (omega (arith, e, g))))

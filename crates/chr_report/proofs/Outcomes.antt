@@ -37,7 +37,7 @@ kept_written None kept out verb wanted status IsWritten d o w =
 kept_written (Some x) kept out verb wanted status IsWritten d o w =
     record { input = x; is_read = refl; out = out; is_output = d verb wanted status out o; is_written = w }
 
--- of an output that was made so much is written
+-- what is written of an output that was made
 pub output_written : (from : Option (List ℕ)) (verb : Verb) (wanted : Wanted) (status : Status) (text written : List ℕ)
     (IsWritten : List ℕ → Type 0) → Writes from verb wanted status (Appends (Some []) (Some text)) → written ≡ text
     → IsWritten written → Writes from verb wanted status IsWritten
@@ -49,7 +49,7 @@ output_written from verb wanted status text written IsWritten w e a = record {
   is_written = subst IsWritten (e ∙ w.is_written) a;
 }
 
--- no lines, no answers
+-- where there are no lines, there are no answers
 pub nothing_to_answer : (ds : List Declaration) (rules : List Rule) (commands : Option (Bor (List ℕ)))
     (old : List Operations) (before : List ℕ) → commands ≡ None
     → AnswersRest ds rules (lines_left commands) old before before
@@ -57,7 +57,7 @@ nothing_to_answer ds rules commands old before e =
     rw e (let r : AnswersRest ds rules [] old before before =
     record { out = []; answers = refl; out_is = sym (append-nil before) } in r)
 
--- the verdict's line and the answers
+-- the verdict's line and the answers are the output of an accepted program
 pub program_answered : (a : Accepted) (p : Program) (ls : List (List ℕ)) (n m : ℕ) (wanted : Wanted) (start : List
     Operations)
     (before out : List ℕ) → IsAcceptedBy wanted.coverage (rules_of (program_in a)) (cases_of a)
@@ -78,13 +78,13 @@ program_answered a p ls n m wanted start before out accepted e f q g h r =
           ∙ append_assoc (accepted_text (length (rules_of (program_in a))) (cases_of a)) (10 ∷ []) k.out;
     }
 
--- a program that is refused
+-- the line of a refused program is its output
 pub refused_by : (p : Program) (wanted : Wanted) (ls : List (List ℕ)) (status : Status) (out line : List ℕ) → status
     ≡ Refused → out ≡ line → IsRefusedByWeights (declarations p) (rules_of p) line ⊎ IsRefusedByOverlaps wanted.coverage
     (declarations p) (rules_of p) line → IsReadOutput (Ok p) wanted ls status out
 refused_by p wanted ls status out line e f h = rw (e, f) h
 
--- what the text is read as decides
+-- what a text is read to decides its output
 pub read_output : (verb : Verb) (wanted : Wanted) (input text : List ℕ) (rest commands : Option (Bor (List ℕ)))
     (answer : Result Program ReadFault) (status : Status) (out : List ℕ)
     → text ≡ text_of (lines input) → commands_of (lines input) ≡ lines_left rest → lines_left commands

@@ -27,7 +27,7 @@ use Rattle.chr_report.specs.OneText.{AnswersExist}
 use Rattle.chr_report.specs.Outputs.{IsReadOutput, IsRulesOutput, accepted_text, asked, not_lowered_text}
 use Rattle.chr_report.specs.Overlaps.{failure_text, too_many_text}
 
--- a status and a text of which this holds
+-- there are a status and a text that fit P
 abbrev HasOutput : (Status → List ℕ → Type 0) → Type 0
 HasOutput P = (status : Status) × (out : List ℕ) × P status out
 

@@ -69,7 +69,7 @@ module _ (ds : List Declaration) (rules : List Rule) where
           } in
           rw e first
 
-  -- one line more
+  -- the whole lines that are answered go on with one line more
   pub front_goes_on : (front line out text : List ℕ) (old mid new : List Operations) → HasNoFeed line
       → AnswersFront ds rules front old out mid → AnswersLine ds rules mid (without_return line) []
       new text → AnswersFront ds rules (front ++ (line ++ 10 ∷ [])) old (out ++ text) new
@@ -79,7 +79,7 @@ module _ (ds : List Declaration) (rules : List Rule) where
       (f (line ++ 10 ∷ more) (text ++ tail) (subst (λ ls. AnswersAll ds rules ls mid (text ++ tail))
       (sym (lines_more line more h)) (line_first line more text tail mid new g a))))
 
-  -- two pieces
+  -- whole lines that are answered, and then others, are answered together
   pub fronts_join : (one two out text : List ℕ) (old mid new : List Operations)
       → AnswersFront ds rules one old out mid → AnswersFront ds rules two mid text new
       → AnswersFront ds rules (one ++ two) old (out ++ text) new
@@ -88,14 +88,14 @@ module _ (ds : List Declaration) (rules : List Rule) where
       (subst (λ o. AnswersAll ds rules (lines (one ++ (two ++ more))) old o) (sym (append_assoc out text tail))
       (f (two ++ more) (text ++ tail) (g more tail a)))
 
-  -- nothing comes after them
+  -- whole lines, where nothing comes after them, are all answered
   pub front_is_answered : (front out : List ℕ) (old now : List Operations) → AnswersFront ds rules front old out now
       → AnswersAll ds rules (lines front) old out
   front_is_answered front out old now f =
       subst (λ i. AnswersAll ds rules (lines i) old out) (append-nil front)
       (subst (λ o. AnswersAll ds rules (lines (front ++ [])) old o) (append-nil out) (f [] [] refl))
 
-  -- a last line without its line feed
+  -- a last line without its line feed is answered after the whole lines
   pub last_is_answered : (front line out text : List ℕ) (old mid new : List Operations) → HasNoFeed line
       → AnswersFront ds rules front old out mid → AnswersLine ds rules mid (without_return line) []
       new text → AnswersAll ds rules (lines (front ++ line)) old (out ++ text)
@@ -203,7 +203,7 @@ module _ (ds : List Declaration) (rules : List Rule) where
           let some : AnswersLine ds rules old line [] new (k.text ++ 10 ∷ []) = rw e one in
           (k.text ++ 10 ∷ [], some, k.out_is ∙ append_assoc before k.text (10 ∷ []))
 
-  -- of the answers so far some were sent, and the others are held
+  -- some of the answers so far were sent, and the others are held
   pub record Gathers (bytes line rest : List ℕ) (start now : List Operations) (old new : Option (List ℕ))
       (holds : List ℕ) : Type 0 where
     pub sent : List ℕ
@@ -264,7 +264,7 @@ module _ (ds : List Declaration) (rules : List Rule) where
         written = subst (Appends old new) (sym (append-nil s.sent) ∙ f.written) s.written;
       }
 
-  -- all of it is sent
+  -- all answers that are held are sent
   pub gathered_whole : (bytes line rest holds : List ℕ) (start now : List Operations) (old middle new : Option (List ℕ))
       → Gathers bytes line rest start now old middle holds → Appends middle new holds
       → SoFar bytes line rest start now old new
@@ -272,7 +272,7 @@ module _ (ds : List Declaration) (rules : List Rule) where
       gathered_all bytes line rest start now old new (gathered_sent bytes line rest holds []
       start now old middle new s (holds, w, sym (append-nil holds)))
 
-  -- those that are held are not sent
+  -- the answers that are held are not sent
   pub part_gathered : (bytes line rest holds : List ℕ) (start now : List Operations) (old new : Option (List ℕ))
       → Gathers bytes line rest start now old new holds → AnswersPart ds rules bytes start old new
   part_gathered bytes line rest holds start now old new s =
@@ -288,7 +288,7 @@ module _ (ds : List Declaration) (rules : List Rule) where
             (s.sent, holds, sym f.written, s.written);
       }
 
-  -- a beginning of those that are held is sent
+  -- a beginning of the answers that are held is sent
   pub part_sent : (bytes line rest holds : List ℕ) (start now : List Operations) (old middle new : Option (List ℕ))
       → Gathers bytes line rest start now old middle holds → AppendsPart middle new holds
       → AnswersPart ds rules bytes start old new

@@ -48,7 +48,7 @@ stands_more cut whole more f rest =
     (subst (λ b. AreAlike (without_return (cut ++ (more ++ rest))) (without_return b))
     (sym (append_assoc whole more rest)) (f (more ++ rest)))
 
--- the line ends here
+-- what stands for a line is answered like it where the line ends here
 pub stands_now : (cut whole : List ℕ) → StandsFor cut whole → AreAlike (without_return cut) (without_return whole)
 stands_now cut whole f =
     subst (λ a. AreAlike (without_return a) (without_return whole)) (append-nil cut)
@@ -60,7 +60,7 @@ if_cons : (b : Bool) (x : ℕ) (u v : List ℕ) → (if b then x ∷ u else x �
 if_cons true x u v = refl
 if_cons false x u v = refl
 
--- a carriage return is dropped at the end alone
+-- a carriage return before another byte is not dropped
 return_next : (x y : ℕ) (ys : List ℕ) → without_return (x ∷ y ∷ ys) ≡ x ∷ without_return (y ∷ ys)
 return_next x y ys =
     let one : length (x ∷ y ∷ ys) - 1 ≡ suc (length ys) = omega arith in
@@ -98,8 +98,8 @@ blank_both true true k l f g = f refl
 blank_both true false k l f g = g refl
 blank_both false m k l f g = refl
 
--- After more bytes than a line may have, those up to the last one are left out: one that is not blank stands for them
--- where they are not.
+-- After more bytes than a line may have, the bytes `mid` before the last one may be left out. Where these are not all
+-- blank, one byte that is not blank stands for them and the last one.
 pub cut_stands : (head mid : List ℕ) (last kept : ℕ) → MAX_LINE < length head → (is_blank_line mid ≡ true → kept ≡ last)
     → (is_blank_line mid ≡ false → kept ≡ 120)
     → StandsFor (head ++ kept ∷ []) (head ++ (mid ++ last ∷ []))
@@ -127,7 +127,7 @@ between line n = take (length line - 1 - n) (drop n line)
 abbrev pub last_of : List ℕ → ℕ
 last_of line = slice_index_or line (length line - 1) 0
 
--- the first n bytes, the last one, and those between
+-- a line is its first n bytes, those between, and the last one
 line_parts : (line : List ℕ) (n : ℕ) → n + 1 < length line → line ≡ take n line ++ (between line n ++ last_of line ∷ [])
 line_parts line n l =
     let k = length line - 1 - n in
@@ -258,7 +258,7 @@ module _ (ds : List Declaration) (rules : List Rule) where
       } in
       h)
 
-  -- and so are the answers of whatever it goes on with
+  -- the answers of what the cut line goes on with are those of what the line goes on with
   all_for : (cut whole rest : List ℕ) (old : List Operations) (out : List ℕ) → HasNoFeed cut → HasNoFeed whole
       → StandsFor cut whole → AnswersAll ds rules (lines (cut ++ rest)) old out
       → AnswersAll ds rules (lines (whole ++ rest)) old out
@@ -340,7 +340,7 @@ module _ (ds : List Declaration) (rules : List Rule) where
       by (inl e) = none_ended cut whole chunk left old now before after g stands a e
       by (inr (bytes, e)) = one_ended cut whole chunk left bytes old now before after h g stands a e
 
-  -- the bytes that were read first
+  -- the bytes that were read first are answered
   pub holds_first : (first left : List ℕ) (from : Option (List ℕ)) (start now : List Operations)
       (old new : Option (List ℕ)) → AnswersChunk ds rules first left start now old new
       → HoldsRead first from from left start now old new
@@ -352,7 +352,7 @@ module _ (ds : List Declaration) (rules : List Rule) where
     read = starts ds rules first left from start now old new a;
   }
 
-  -- more of them, after which the line that is left is cut
+  -- more bytes are answered, after which the line that is left is cut
   pub holds_more : (first chunk line left cut : List ℕ) (from to next : Option (List ℕ))
       (start mid now : List Operations) (old middle new : Option (List ℕ))
       → HoldsRead first from to line start mid old middle → Consumes to next chunk
@@ -367,7 +367,7 @@ module _ (ds : List Declaration) (rules : List Rule) where
         read = goes_on ds rules first chunk s.whole held.0 from to next start mid now old middle new s.read c held.2;
       }
 
-  -- a chunk that was answered in part
+  -- a chunk was answered in part
   pub holds_part : AnswersExist → AreLowering (weight_by ds) rules
       → (first chunk line : List ℕ) (from to next : Option (List ℕ)) (start mid : List Operations)
       (old middle new : Option (List ℕ)) → HoldsRead first from to line start mid old middle

@@ -11,7 +11,7 @@ use Rattle.chr_report.specs.Outputs.{IsOutput}
 abbrev pub LinesAreTheInput : Type 0
 LinesAreTheInput = (input : List ℕ) → join_with_byte 10 (lines input) ≡ input
 
--- what a run writes is what a check of the same input writes, and then the answers; their statuses are one
+-- what a run writes is what a check of the same input writes, and then the answers; both have one status
 abbrev pub ChecksBeginRuns : Type 0
 ChecksBeginRuns =
     (wanted : Wanted) (input : List ℕ) (status : Status) (out : List ℕ) → IsOutput Run wanted input status out

@@ -7,7 +7,7 @@ use Rattle.chr_report.specs.declared.wanted.Wanted.{Wanted}
 use Rattle.chr_report.specs.Asked.{replicas_by}
 use Rattle.chr_report.specs.Outputs.{IsOutput}
 
--- some status and some text are an output, where programs are judged by joint cases
+-- where programs are judged by joint cases, some status and some text are an output
 abbrev pub OutputsExist : Type 0
 OutputsExist =
     (verb : Verb) (replicas : ℕ) (input : List ℕ)

@@ -15,14 +15,14 @@ AnswersExist =
     (ds : List Declaration) (rules : List Rule) → AreLowering (weight_by ds) rules
     → (lines : List (List ℕ)) (old : List Operations) → (out : List ℕ) × AnswersAll ds rules lines old out
 
--- of replicas that were told 64-bit values: two texts that answer the same lines are equal
+-- two texts that answer the same lines, of replicas that were told 64-bit values, are equal
 abbrev pub AnswersAreOne : Type 0
 AnswersAreOne =
     (ds : List Declaration) (rules : List Rule) → Confluent rules
     → (lines : List (List ℕ)) (old : List Operations) → All (λ m. HasValues (told_store m)) old → (out other : List ℕ)
     → AnswersAll ds rules lines old out → AnswersAll ds rules lines old other → out ≡ other
 
--- the same of so many replicas that were told nothing
+-- two texts that answer the same lines, of `replicas` replicas that were told nothing, are equal
 abbrev pub FirstAnswersAreOne : Type 0
 FirstAnswersAreOne =
     (ds : List Declaration) (rules : List Rule) → Confluent rules → (replicas : ℕ) (lines : List (List ℕ))

@@ -36,13 +36,14 @@ IsFaultLine (fault.Bad f k) out =
     out ≡ codes "refused " ++ decimal (number_of_fault f) ++ codes ": clause " ++ decimal k ++ 10 ∷ []
 IsFaultLine fault.Memory out = ⊥
 
--- with both numbers of each weight, or the first alone
+-- a rule that does not lower the weight, with the weights before and after it: both numbers of each, or the first alone
 abbrev pub not_lowered_text : Bool → ℕ → Weight → Weight → List ℕ
 not_lowered_text paired i before after =
     codes "refused 20: rule " ++ decimal i ++ codes "; before " ++ weight_text paired before
     ++ codes "; after " ++ weight_text paired after
 
--- the line of a program with such a rule; both numbers are told where the second of some symbol isn't 0
+-- the line of a program with a rule that does not lower the weight; both numbers are told where the second of some
+-- symbol isn't 0
 pub record IsRefusedByWeights (ds : List Declaration) (rules : List Rule) (out : List ℕ) : Type 0 where
   pub rule : ℕ
   pub before : Weight
@@ -50,13 +51,14 @@ pub record IsRefusedByWeights (ds : List Declaration) (rules : List Rule) (out :
   pub first : IsFirstNotLowered ds rules rule before after
   pub out_is : out ≡ not_lowered_text (some_paired ds) rule before after ++ 10 ∷ []
 
--- want of memory is no verdict
+-- the line of a cause for which a program is refused; want of memory is no such cause
 abbrev pub IsCauseLine : List Declaration → Cause → List ℕ → Type 0
 IsCauseLine ds (cause.Fails f) out = out ≡ failure_text ds f ++ 10 ∷ []
 IsCauseLine ds (cause.TooManyTypes t) out = out ≡ too_many_text t ++ 10 ∷ []
 IsCauseLine ds cause.Memory out = ⊥
 
--- the line of a program that lowers, and has a failing case or an overlap of too many, as the coverage has them
+-- the line of a program that lowers and is refused for its overlaps: for a failing case, or for an overlap with too
+-- many order types, whichever comes first by the coverage
 pub record IsRefusedByOverlaps (coverage : Coverage) (ds : List Declaration) (rules : List Rule) (out : List ℕ)
     : Type 0 where
   pub lowers : AreLowering (weight_by ds) rules
@@ -67,7 +69,7 @@ pub record IsRefusedByOverlaps (coverage : Coverage) (ds : List Declaration) (ru
 abbrev pub accepted_text : ℕ → ℕ → List ℕ
 accepted_text rules cases = codes "accepted: rules " ++ decimal rules ++ codes ", cases " ++ decimal cases
 
--- the line of a program of which no case fails, and the answers of so many replicas that were told nothing
+-- the line of a program of which no case fails, and the answers of `wanted.replicas` replicas that were told nothing
 pub record IsAnswered (ds : List Declaration) (rules : List Rule) (wanted : Wanted) (commands : List (List ℕ))
     (out : List ℕ) : Type 0 where
   pub lowers : AreLowering (weight_by ds) rules
@@ -82,20 +84,20 @@ IsRulesOutput ds rules wanted commands Accepted out = IsAnswered ds rules wanted
 IsRulesOutput ds rules wanted commands Refused out =
     IsRefusedByWeights ds rules out ⊎ IsRefusedByOverlaps wanted.coverage ds rules out
 
--- what is written where a text has this answer
+-- what is written for a text that is read to this answer
 abbrev pub IsReadOutput : Result Program ReadFault → Wanted → List (List ℕ) → Status → List ℕ → Type 0
 IsReadOutput (Ok p) wanted commands status out =
     IsRulesOutput (declarations p) (rules_of p) wanted commands status out
 IsReadOutput (Err e) wanted commands status out = (status ≡ Refused) × IsFaultLine e out
 
--- the commands that are answered: by a check and an explanation none, by a run all, as where they are served
+-- the commands that are answered: none by a check and an explanation, all by a run and where they are served
 abbrev pub asked : Verb → List (List ℕ) → List (List ℕ)
 asked Check commands = []
 asked Explain commands = []
 asked Run commands = commands
 asked Serve commands = commands
 
--- the output, and its status: the text has an answer, and this is written for it
+-- the output of an input, with its status: its program text is read to some answer, and this is written for that
 abbrev pub IsOutput : Verb → Wanted → List ℕ → Status → List ℕ → Type 0
 IsOutput verb wanted input status out =
     (answer : Result Program ReadFault) × IsAnswer (text_of (lines input)) answer

@@ -21,14 +21,14 @@ AreWholeLines front = (front ≡ []) ⊎ ((bytes : List ℕ) × (front ≡ bytes
 abbrev pub has_divider : List ℕ → Bool
 has_divider bytes = list_any is_divider (lines bytes)
 
--- all that is due for whole lines is written: nothing before the program text has ended, and then their output
+-- what is written is all that is due for whole lines: nothing before the program text has ended, and then their output
 abbrev pub WritesDue : List ℕ → Option (List ℕ) → Option (List ℕ) → Wanted → Type 0
 WritesDue front old new wanted =
     MatchBool (has_divider front) ((status : Status) × WritesOutput (Some front) old new Run wanted status)
     (Appends old new [])
 
--- Of the bytes that were read `front` are whole lines, for which all is written that is due. After them a line may
--- have begun.
+-- Of the bytes that were read `front` are whole lines, for which all is written that is due. After them a line may have
+-- begun.
 pub record AllAnswered (from to old new : Option (List ℕ)) (wanted : Wanted) : Type 0 where
   pub front : List ℕ
   pub line : List ℕ

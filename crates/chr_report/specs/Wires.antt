@@ -9,6 +9,6 @@ reader_of s = inner_of s.reader
 abbrev pub writer_of : {R W : Type 0} → Streams R W → W
 writer_of s = inner_of s.writer
 
--- one of them has failed
+-- the reader or the writer has failed
 abbrev pub is_broken : {R W : Type 0} → Streams R W → Bool
 is_broken s = has_failed s.reader || has_failed s.writer

@@ -7,7 +7,7 @@ use Rattle.chr_report.specs.declared.running.Status.{Status}
 use Rattle.chr_report.specs.declared.wanted.Wanted.{Wanted}
 use Rattle.chr_report.specs.Outputs.{IsOutput}
 
--- there is an output of the input, with this status, of which IsWritten holds
+-- there is an output of the input, with this status, that fits `IsWritten`
 pub record Writes (bytes : Option (List ℕ)) (verb : Verb) (wanted : Wanted) (status : Status)
     (IsWritten : List ℕ → Type 0) : Type 0 where
   pub input : List ℕ
@@ -16,12 +16,12 @@ pub record Writes (bytes : Option (List ℕ)) (verb : Verb) (wanted : Wanted) (s
   pub is_output : IsOutput verb wanted input status out
   pub is_written : IsWritten out
 
--- the output of the input, with this status
+-- the output of the input, with this status, is written
 abbrev pub WritesOutput :
     Option (List ℕ) → Option (List ℕ) → Option (List ℕ) → Verb → Wanted → Status → Type 0
 WritesOutput bytes old new verb wanted status = Writes bytes verb wanted status (Appends old new)
 
--- nothing, or a beginning of an output of the input
+-- nothing is written, or a beginning of an output of the input
 abbrev pub WritesBeginning : Option (List ℕ) → Option (List ℕ) → Option (List ℕ) → Verb → Wanted → Type 0
 WritesBeginning bytes old new verb wanted =
     Appends old new [] ⊎ ((status : Status) × Writes bytes verb wanted status (AppendsPart old new))

@@ -15,22 +15,25 @@ use chr_json::is_blank;
 use std::alloc::{AllocError, Global};
 use std::vec::IntoIter;
 
-/// So many lines of a text are read ahead at most, so that what short lines ask for takes no more memory than that.
+/// The most lines of a text that are read ahead, so that what short lines ask for takes no more memory than this many
+/// requests.
 pub(crate) const MOST_LINES: usize = 65_536;
 
-/// What lines ask for takes about so many times their bytes.
+/// The memory of what lines ask for, as a multiple of their bytes.
 const ROOM: usize = 3;
 
-/// What the first of a text's last lines asks for, if that is known and the line is not blank: how many bytes are left
-/// of the text at the line's start, and how many after its end.
+/// One of a text's lines, and what it asks for.
 #[derive(Drop)]
 pub(crate) struct Heard {
+    /// How many bytes of the text are left at the line's start.
     pub(crate) left: usize,
+    /// How many bytes of the text are left after the line's end.
     pub(crate) more: usize,
+    /// What the line asks for, if that is known and the line is not blank.
     pub(crate) request: Option<Request>,
 }
 
-/// What the first line of a text's last bytes asks for, so many. None where no line ends in them.
+/// What the first line of a text's last `left` bytes asks for. Nothing is answered where no line ends in them.
 pub(crate) fn read_one(alloc: Global, program: &Program, text: &[u8], left: usize) -> Option<Heard>
     ensures heard { IfSome result (IsHeard program.now text.now) }
     ensures left { IfSome result (λ heard. heard.left ≡ left) }
@@ -58,8 +61,8 @@ pub(crate) fn first_replica(alloc: Global, program: &Program, text: &[u8]) -> Op
     }
 }
 
-/// Asks for as much memory at once as lines of so many bytes take, and gives it back. An allocator that asks the system
-/// for each page which a thread takes, and has the other threads wait meanwhile, has these pages then.
+/// Asks for as much memory at once as lines of `size` bytes take, and gives it back. Some allocators ask the system for
+/// each page that a thread takes, and have the other threads wait meanwhile: such an allocator has these pages then.
 fn make_room(alloc: Global, size: usize) {
     let _room = Vec::<u8>::with_capacity(alloc, size.saturating_mul(ROOM));
 }
@@ -94,7 +97,7 @@ pub(crate) struct Ahead {
 }
 
 impl Ahead {
-    /// Each line is left to be read in its turn.
+    /// No line was read before its turn.
     pub(crate) fn none(alloc: Global) -> Self
         ensures { (p : ProgramValue) (text : List ℕ) → IsAhead p text result }
     {
@@ -104,7 +107,7 @@ impl Ahead {
         }
     }
 
-    /// Reads the lines of a text, and rests the tells at its beginning with what is carried, where that is wanted.
+    /// Reads the lines of a text. If the block is to be rested, `carried` is what its first tells are rested with.
     pub(crate) fn read(
         alloc: Global,
         accepted: &Accepted,
@@ -126,7 +129,7 @@ impl Ahead {
         Ok(Ahead { tells, heard })
     }
 
-    /// The tells that were rested, where they come next: so many bytes are left where they begin.
+    /// The tells that were rested, if they are what comes next where `left` bytes are left.
     pub(crate) fn tells(&mut self, left: usize) -> Option<Tells>
         ensures ahead { (p : ProgramValue) (text : List ℕ) → IsAhead p text self.old → IsAhead p text self.new }
         ensures tells { (p : ProgramValue) (text : List ℕ) → IsAhead p text self.old
@@ -139,8 +142,8 @@ impl Ahead {
         self.tells.take()
     }
 
-    /// What the next line asks for, and how many bytes come after its end, if that is known of the line at whose start
-    /// so many bytes are left.
+    /// What the line that begins where `left` bytes are left asks for, and how many bytes are left after its end, if
+    /// that was read before its turn.
     pub(crate) fn request(&mut self, left: usize) -> Option<(Request, usize)>
         ensures ahead { (p : ProgramValue) (text : List ℕ) → IsAhead p text self.old → IsAhead p text self.new }
         ensures first { (p : ProgramValue) (text : List ℕ) → IsAhead p text self.old

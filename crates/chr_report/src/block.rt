@@ -4,16 +4,18 @@ ghost use Rattle.chr_report.specs.Served.{AreWholeLines};
 
 use crate::input::whole_len;
 
-/// Bytes of an input, of which so many are whole lines.
+/// Bytes of an input: whole lines, and the beginning of one.
 #[derive(Drop)]
 pub(crate) struct Block {
+    /// All bytes.
     pub(crate) bytes: Vec<u8>,
+    /// How many of the bytes are whole lines.
     pub(crate) whole: usize,
     pub ghost within: { whole ≤ length bytes.items },
 }
 
 impl Block {
-    /// These bytes.
+    /// The block of these bytes.
     pub(crate) fn of(bytes: Vec<u8>) -> Block
         ensures bytes { result.bytes ≡ bytes }
         ensures lines { AreWholeLines (take result.whole result.bytes.items) }
@@ -22,14 +24,14 @@ impl Block {
         Block { bytes, whole }
     }
 
-    /// Its whole lines.
+    /// The whole lines of the block.
     pub(crate) fn lines(&self) -> &[u8]
         ensures { result.now ≡ take self.now.whole self.now.bytes.items }
     {
         &self.bytes[..self.whole]
     }
 
-    /// What comes after them, which begins a line.
+    /// What comes after the whole lines, which begins a line.
     pub(crate) fn begun(&self) -> &[u8]
         ensures { result.now ≡ drop self.now.whole self.now.bytes.items }
     {

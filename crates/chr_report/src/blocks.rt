@@ -35,30 +35,34 @@ use std::mem::replace;
 use std::sync::{Arc, Wait};
 use std::thread::Threads;
 
-/// So many bytes are in a block first, and then twice as many each time, so that little is waited for.
+/// The bytes of the first block. Each later block has twice as many as the one before it, so that little is waited for
+/// at first.
 const FIRST_BLOCK: usize = 16_384;
 
-/// So many at most: what was read is to be in a cache still when it is answered.
+/// The most bytes of a block: what was read is to be in a cache still when it is answered.
 const MOST_BLOCK: usize = 524_288;
 
-/// So many where threads that read rest nothing: what was told is to be in a cache when it is rested, too.
+/// The most bytes of a block where threads that read rest nothing: what was told is to be in a cache when it is rested,
+/// too.
 const MOST_UNRESTED_BLOCK: usize = 262_144;
 
-/// So many blocks for each worker are read, or are to be read, before the first of them is answered.
+/// How many blocks for each worker are read, or are to be read, before the first of them is answered, where threads
+/// that read rest nothing.
 const BLOCKS_AHEAD: usize = 2;
 
-/// So many where threads that read rest what is told: of few such tasks the last one would be waited for.
+/// How many blocks for each worker are read, or are to be read, before the first of them is answered, where threads
+/// that read rest what is told: of few such tasks the last one would be waited for.
 const RESTED_AHEAD: usize = 4;
 
-/// So many at most, for any number of workers.
+/// The most blocks that are read ahead, for any number of workers.
 const MOST_AHEAD: usize = 32;
 
-/// So many bytes of them wait for each worker, and then no more are read: what comes of a block takes several times its
-/// bytes, and a block of long lines has more of these than others.
+/// The bytes that wait for each worker when no more are read: what comes of a block takes several times its bytes, and
+/// a block of long lines has more of these than others.
 const MOST_WAITING: usize = 1_048_576;
 
-/// Reads on from the beginning of a line, in a room that holds nothing else then: so many bytes at least, or as many as
-/// there are, and then true.
+/// Reads on from the beginning of a line, in a room that holds nothing else then: more than `size` bytes, or all that
+/// there are. Answers whether these are all.
 fn read_after<D: Read>(
     reader: &mut Watched<D>,
     begun: &[u8],
@@ -75,7 +79,7 @@ fn read_after<D: Read>(
 {
     room.clear();
     room.extend_from_slice(begun)?;
-    // A line is not copied once more for each block that it takes.
+    // At least as much again as has begun is read: so a line that takes many blocks is not copied for each.
     read_on(reader, room, size.max(begun.len().saturating_mul(2)))
 }
 
@@ -94,7 +98,7 @@ fn shared(alloc: Global, block: Block) -> Result<Arc<Block>, AllocError>
     Arc::new(alloc, block).map_err(|_refused| AllocError)
 }
 
-/// One block more, after the others.
+/// Adds a block after the others.
 fn push_last(blocks: &mut VecDeque<Arc<Block>>, block: Arc<Block>) -> Result<(), AllocError>
     ensures { OnOk result (map (λ b. arc_value b) blocks.new.items
         ≡ map (λ b. arc_value b) blocks.old.items ++ arc_value block ∷ []) }
@@ -103,7 +107,8 @@ fn push_last(blocks: &mut VecDeque<Arc<Block>>, block: Arc<Block>) -> Result<(),
     Ok(())
 }
 
-/// Rests what was told, where so much waits that workers are to rest it. Threads that read lines go on meanwhile.
+/// Rests what was told, where so many atoms wait that workers are to rest them. Threads that read lines go on
+/// meanwhile.
 fn rest_told<R: Threads + Wait + Sync>(
     rt: &R,
     alloc: Global,
@@ -120,20 +125,25 @@ fn rest_told<R: Threads + Wait + Sync>(
     service.rest_between(rt, alloc)
 }
 
-/// Blocks of lines, in order: by whom they are answered, those that are to be read before their turn, the beginning of
-/// the line after them, a room for more bytes, how many of these are to be read, and whether all are.
+/// Blocks of lines that wait to be answered, in order.
 #[derive(Drop)]
 pub(crate) struct Blocks {
+    /// By whom they are answered, and what was answered so far.
     pub(crate) at: Answering,
+    /// The blocks that were read from the input and are not answered. Other threads read their lines before their turn.
     pub(crate) blocks: VecDeque<Arc<Block>>,
+    /// The beginning of the line after the last block.
     pub(crate) begun: Vec<u8>,
+    /// A room for more bytes.
     pub(crate) room: Vec<u8>,
+    /// How many bytes are read next.
     pub(crate) size: usize,
+    /// Whether all bytes are read.
     pub(crate) ended: bool,
 }
 
 impl Blocks {
-    /// The first bytes, of which nothing is answered, and whether these are all.
+    /// The first bytes, of which nothing is answered. `ended` says whether these are all.
     fn open(
         alloc: Global,
         service: Service,
@@ -163,8 +173,8 @@ impl Blocks {
         })
     }
 
-    /// As many blocks are read, or to be read, before the first is answered: fewer where threads that read rest
-    /// nothing. Then others wait for the one that answers.
+    /// The most blocks that wait. They are fewer where threads that read rest nothing: then other blocks wait for the
+    /// thread that answers.
     fn most(&self) -> usize {
         let workers = self.at.service.sharing.workers as usize;
         if workers == 1 {
@@ -178,7 +188,7 @@ impl Blocks {
         ahead.saturating_mul(workers).min(MOST_AHEAD)
     }
 
-    /// Whether so many bytes wait that some are to be answered before more are read.
+    /// Whether the blocks that wait have so many bytes that some are to be answered before more are read.
     fn is_full(&self) -> bool {
         let workers = self.at.service.sharing.workers as usize;
         let mut waiting = 0usize;
@@ -225,7 +235,8 @@ impl Blocks {
         Ok(())
     }
 
-    /// Reads so many blocks that enough of them wait, or all that are left, where half of them were answered.
+    /// Where no more than half of [`Blocks::most`] blocks wait, reads on until that many wait, enough bytes do, or all
+    /// are read.
     fn fill<R: Wait, D: Read, K: Known<Done>>(
         &mut self,
         rt: &R,
@@ -303,7 +314,7 @@ impl Blocks {
         })
     }
 
-    /// Answers all lines after the last block.
+    /// Answers what comes after the last block.
     fn end<R: Threads + Wait + Sync>(self, rt: &R, alloc: Global) -> Result<String, AllocError>
         requires { IsBetweenLines self.at.service }
         ensures { IfOk result (λ out. AnswersRest (declarations (served self.at.service))
@@ -315,8 +326,8 @@ impl Blocks {
     }
 }
 
-/// Answers the lines of the bytes that were read first, and of all that come, if the input has not ended with those,
-/// after a text.
+/// Answers the lines of `first` and of all that comes after it, if the input has not `ended` with that, at the end of a
+/// text.
 fn answer_blocks<R: Threads + Wait + Sync, D: Read, K: Known<Done>>(
     rt: &R,
     alloc: Global,
@@ -350,7 +361,7 @@ fn answer_blocks<R: Threads + Wait + Sync, D: Read, K: Known<Done>>(
     unreachable!()
 }
 
-/// Does so, and asks other threads by tasks, of which these are left.
+/// Like [`answer_blocks`], with other threads that take the tasks. At the end it drops the tasks that none has taken.
 fn answer_asking<R: Threads + Wait + Sync, D: Read, K: Known<Done>>(
     rt: &R,
     alloc: Global,
@@ -389,7 +400,7 @@ fn answer_asking<R: Threads + Wait + Sync, D: Read, K: Known<Done>>(
     answered
 }
 
-/// Does so while other threads read lines before their turn.
+/// Like [`answer_asking`], while other threads do the tasks: they read lines before their turn.
 fn answer_beside<R: Threads + Wait + Sync, D: Read, K: Known<Done> + Send>(
     rt: &R,
     alloc: Global,
@@ -456,12 +467,12 @@ fn answer_beside<R: Threads + Wait + Sync, D: Read, K: Known<Done> + Send>(
     )
 }
 
-/// Answers the lines of the bytes that were read first, and of all that come, if the input has not ended with those,
-/// after a text. The process is about to end then, and its memory with it, so the replicas are left as they are.
+/// Answers the lines of `first` and of all that comes after it, if the input has not `ended` with that, at the end of a
+/// text. The process is about to end then, and its memory with it, so the replicas are left as they are.
 ///
 /// # Errors
 ///
-/// `Device` where a read fails, and `Memory` where no memory was left: then the reader may have been read in part.
+/// `Device` where a read fails, and `Memory` where memory was refused: then the reader may have been read in part.
 pub(crate) fn answer_input<R: Threads + Wait + Sync, D: Read>(
     rt: &R,
     alloc: Global,

@@ -1,4 +1,4 @@
-//! What is carried from block to block by the threads that read them.
+//! Atoms that are carried from block to block by the threads that read them.
 ghost use Rattle.std.specs.Prelude.{◌<◌};
 
 use crate::gathering::{Carried, Tells};
@@ -8,34 +8,40 @@ use std::alloc::{AllocError, Global};
 use std::sync::Wait;
 use std::sync::atomic::{AtomicBool, AtomicU64, Ordering};
 
-/// What comes of the tells of a block, by its number and that of their replica, and may be rested with such tells of a
-/// later block.
+/// Atoms left over from a block, to be rested with the tells of a later block to the same replica.
 #[derive(Drop)]
 struct Parcel {
+    /// The number of the block.
     number: u64,
+    /// The number of the replica.
     replica: u64,
+    /// The atoms.
     carried: Carried,
 }
 
 impl Parcel {
-    /// Whether it may be rested with what this block of a stretch tells this replica.
+    /// Whether they may be rested with what block `number` of a stretch tells this replica.
     fn goes_to(&self, number: u64, replica: u64, stretch: u64) -> bool {
         self.number < number && self.replica == replica && self.carried.stretch == stretch
     }
 }
 
-/// Whether it pays that tells are rested by the threads that read them, the number of the stretch of blocks in which
-/// parts may be carried on, and such parts. Each of them goes on from block to block, by whatever thread.
+/// What the threads that read blocks know of each other. A parcel goes from one block to a later one, whichever threads
+/// read them.
 #[derive(Drop)]
 pub(crate) struct Carriage {
+    /// Whether it pays that the threads that read tells rest them.
     pays: AtomicBool,
+    /// The number of the stretch of blocks in which atoms may be carried on.
     stretch: AtomicU64,
+    /// Takes parcels in.
     here: Sender<Parcel>,
+    /// Gives parcels out.
     there: Receiver<Parcel>,
 }
 
 impl Carriage {
-    /// Nothing is carried yet, and so many parts at most will be.
+    /// A carriage with no parcels yet, which holds at most `most` of them.
     pub(crate) fn open(alloc: Global, most: usize) -> Result<Carriage, AllocError>
         requires { 0 < most }
     {
@@ -48,14 +54,14 @@ impl Carriage {
         })
     }
 
-    /// Notes whether it pays to rest tells, and in which stretch of blocks parts may be carried on.
+    /// Notes whether it pays to rest tells, and in which stretch of blocks atoms may be carried on.
     pub(crate) fn note(&self, pays: bool, stretch: u64) {
         self.pays.store(pays, Ordering::Relaxed);
         self.stretch.store(stretch, Ordering::Relaxed);
     }
 
-    /// What is carried to the block of a number, which tells this replica operations, if they are to be rested: a part
-    /// that came of one before it, or nothing.
+    /// The atoms that are carried to block `number`, which tells this replica operations: those left over from an
+    /// earlier block, or none. Nothing is answered where it does not pay to rest tells.
     pub(crate) fn take<R: Wait>(
         &self,
         rt: &R,
@@ -76,7 +82,8 @@ impl Carriage {
         }
     }
 
-    /// Carries on what came of the tells of a block, if that is to go on. Where there is no memory or no room it isn't.
+    /// Carries the atoms on that are left over from block `number`, if they may go on. Where memory is refused or there
+    /// is no room they are not carried.
     pub(crate) fn give<R: Wait>(&self, rt: &R, alloc: Global, number: u64, tells: &Tells) {
         if !tells.goes_on {
             return;

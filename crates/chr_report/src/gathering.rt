@@ -16,67 +16,82 @@ use chr_ops::Op;
 use chr_shards::Shards;
 use std::alloc::{AllocError, Global};
 
-/// Of more than so many atoms it shows whether it pays to rest them.
+/// How many atoms have to be told before it shows whether it pays to rest them.
 const TRIAL: u64 = 2048;
 
-/// It pays where of so many atoms one takes a step.
+/// It pays where at least one of this many atoms takes a step.
 const PAYING: u64 = 256;
 
-/// As many atoms are carried from block to block at most: each time they are rested once more.
+/// The most atoms that are carried from block to block: they are rested again each time.
 const MOST_CARRIED: u64 = 4096;
 
-/// Of so many atoms that a block tells one may be carried.
+/// Of the atoms that a block tells one of this many may be carried.
 const CARRYING: u64 = 4;
 
-/// What stays of the atoms of blocks that were read before, and the number of the stretch of blocks in which it may be
-/// carried on: a new one begins where parts that are out come back.
+/// Atoms that are carried from blocks that were read before.
 #[derive(Drop)]
 pub(crate) struct Carried {
+    /// The atoms.
     pub(crate) part: Bag,
+    /// The number of the stretch of blocks in which they may be carried on. A new stretch begins where parts that are
+    /// leased out come back.
     pub(crate) stretch: u64,
 }
 
-/// Lines of a text that tell one replica operations: how many bytes are left of the text where they begin and where
-/// they end, the operations, and what comes of their atoms and those that were carried, at rest, and whether that is
-/// carried on.
+/// Lines of a text that tell one replica operations, and what comes of their atoms.
 #[derive(Drop)]
 pub(crate) struct Tells {
+    /// How many bytes of the text are left where the lines begin.
     pub(crate) left: usize,
+    /// How many bytes of the text are left where they end.
     pub(crate) more: usize,
+    /// The number of the replica.
     pub(crate) replica: u64,
+    /// The operations, in the order of the lines.
     pub(crate) ops: Vec<Op>,
+    /// The atoms that were carried to them.
     pub(crate) carried: Carried,
+    /// What the operations' atoms and those that were carried come to, at rest.
     pub(crate) rested: Bag,
+    /// Whether what was rested is carried on.
     pub(crate) goes_on: bool,
 }
 
-/// Such lines while they are read, how many atoms they tell, the pool in which these are rested, and by how many steps.
+/// Lines that tell one replica operations, while they are read.
 #[derive(Drop)]
 struct Gathering {
+    /// How many bytes of the text are left where the lines begin.
     left: usize,
+    /// How many bytes of the text are left where the next line begins.
     more: usize,
+    /// The number of the replica.
     replica: u64,
+    /// The operations so far.
     ops: Vec<Op>,
+    /// How many atoms these tell.
     told: u64,
+    /// The atoms that were carried to them.
     carried: Carried,
+    /// The pool in which all these atoms are rested.
     pool: Shards,
+    /// By how many steps they were rested.
     steps: u64,
 }
 
-/// Whether what stays of so many told atoms is carried on: so many.
+/// Whether the `staying` atoms that are left of `told` atoms are few enough to be carried on.
 fn may_go_on(told: u64, staying: u64) -> bool {
     staying <= MOST_CARRIED && staying <= told / CARRYING
 }
 
 impl Tells {
-    /// How many atoms more stay than were carried.
+    /// How many more atoms were left than were carried here.
     pub(crate) fn staying(&self) -> u64 {
         (self.rested.len() as u64).saturating_sub(self.carried.part.len() as u64)
     }
 }
 
 impl Gathering {
-    /// No line yet, where so many bytes are left.
+    /// No line yet, where `left` bytes are left.
     fn open(
         alloc: Global,
         accepted: &Accepted,
@@ -101,7 +116,7 @@ impl Gathering {
         })
     }
 
-    /// Whether a tell to this replica may come next: all of them are told to one.
+    /// Whether a tell to this replica may come next: all of the lines tell one replica.
     fn goes_to(&self, replica: u64) -> bool
         ensures { IsTrue result → (self.now.ops.items ≡ []) ⊎ (self.now.replica ≡ replica) }
     {
@@ -124,7 +139,7 @@ impl Gathering {
         }
     }
 
-    /// Rests it where many atoms wait in it.
+    /// Rests the pool where many atoms wait in it.
     fn rest_many(&mut self) -> Result<(), AllocError>
         ensures gathered { (p : ProgramValue) (text : List ℕ) → IsGathered p text self.old
             → OnOk result (IsGathered p text self.new) }
@@ -137,7 +152,7 @@ impl Gathering {
         self.rest()
     }
 
-    /// One operation more, whose line ends where so many bytes are left.
+    /// Adds an operation, whose line ends where `more` bytes are left.
     fn push(&mut self, replica: u64, op: Op, more: usize) -> Result<(), AllocError>
         requires { (self.old.ops.items ≡ []) ⊎ (self.old.replica ≡ replica) }
         ensures gathered { (p : ProgramValue) (text : List ℕ) → IsGathered p text self.old
@@ -152,12 +167,12 @@ impl Gathering {
         self.rest_many()
     }
 
-    /// Whether it is in vain to rest more: of many atoms hardly any took a step, and none waits.
+    /// Whether it is in vain to rest more atoms: of many hardly any took a step, and none waits.
     fn is_in_vain(&self) -> bool {
         self.told > TRIAL && self.pool.waiting() == 0 && self.steps < self.told / PAYING
     }
 
-    /// Reads the next line, if it tells that replica an operation. Otherwise it is left to be read again.
+    /// Reads the next line, if it tells the same replica an operation. Any other line is left to be read again.
     fn take_line(
         &mut self,
         alloc: Global,
@@ -181,7 +196,7 @@ impl Gathering {
         }
     }
 
-    /// All of them, if there are any, at rest.
+    /// All tells that were read, at rest, if there are any.
     fn rested(self, alloc: Global) -> Result<Option<Tells>, AllocError>
         ensures { (p : ProgramValue) (text : List ℕ) → IsGathered p text self
             → IfOk result (λ found. IfSome found (AreTells p text)) }
@@ -215,7 +230,7 @@ impl Gathering {
     }
 }
 
-/// Reads the tells at the beginning of a text, as far as they go to one replica, and rests them with what is carried,
+/// Reads the tells at the beginning of a text, as far as they go to one replica, and rests them with the carried atoms,
 /// as long as that is not in vain.
 pub(crate) fn gather(
     alloc: Global,

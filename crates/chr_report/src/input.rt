@@ -11,8 +11,8 @@ use chr_device::Verb;
 use chr_read::MAX_TEXT;
 use memchr::{memchr, memrchr};
 
-/// As many bytes are held at most before the program text has ended: what is longer than its limit with no divider in
-/// it is refused, whatever follows. A line that is no longer than the longest divider may become one.
+/// The most bytes that are held before the program text has ended: a longer beginning without a divider has a text over
+/// its limit, and is refused whatever follows. A line that is no longer than the longest divider may still become one.
 pub(crate) const MOST_TEXT: usize = MAX_TEXT + 4;
 
 /// How many bytes stand before the first line feed.
@@ -26,7 +26,7 @@ fn line_len(bytes: &[u8]) -> usize
     }
 }
 
-/// What stands before the first line feed and after it. None where there is none.
+/// What stands before the first line feed and after it, or nothing where there is no line feed.
 pub(crate) fn ended_line(bytes: &[u8]) -> Option<(&[u8], &[u8])>
     ensures some { IfSome result (λ p. bytes.now ≡ p.0.now ++ 10 ∷ p.1.now) }
     ensures unended { IfSome result (λ p. HasNoFeed p.0.now) }
@@ -53,14 +53,15 @@ pub(crate) fn next_line(bytes: &[u8]) -> (&[u8], Option<&[u8]>)
     }
 }
 
-/// The last bytes of a text, so many.
+/// The last `count` bytes of a text.
 pub(crate) fn last_bytes(text: &[u8], count: usize) -> &[u8]
     ensures { result.now ≡ last_bytes count text.now }
 {
     text.split_at(text.len().saturating_sub(count)).1
 }
 
-/// The first line of a text's last bytes, so many, and how many come after its end. None where no line ends in them.
+/// The first line of a text's last `left` bytes, and how many bytes come after its end, or nothing where no line ends
+/// in them.
 pub(crate) fn first_of_last(text: &[u8], left: usize) -> Option<(&[u8], usize)>
     ensures some { IfSome result (λ p. last_bytes left text.now ≡ p.0.now ++ 10 ∷ last_bytes p.1 text.now) }
     ensures unended { IfSome result (λ p. HasNoFeed p.0.now) }
@@ -101,8 +102,8 @@ fn is_divider(line: &[u8]) -> bool
     without_return(line) == b"---".as_slice()
 }
 
-/// The program text, which ends before the first line `---`, and what comes after that line: None where there is no
-/// such line, or nothing comes after it.
+/// The program text, which ends before the first line `---`, and what comes after that line, or nothing where there is
+/// no such line or nothing comes after it.
 pub(crate) fn split(input: &[u8]) -> (&[u8], Option<&[u8]>)
     ensures text { result.0.now ≡ text_of (lines input.now) }
     ensures commands { commands_of (lines input.now) ≡ lines_left result.1 }
@@ -118,8 +119,8 @@ pub(crate) fn split(input: &[u8]) -> (&[u8], Option<&[u8]>)
     (input, None)
 }
 
-/// The program text before the first line `---` that has ended, and what comes after that line. None where there is no
-/// such line yet.
+/// The program text before the first line `---` that has ended, and what comes after that line, or nothing where there
+/// is no such line yet.
 pub(crate) fn divided(input: &[u8]) -> Option<(&[u8], &[u8])>
     ensures some { IfSome result (λ p. IsDivided input.now p.0.now p.1.now) }
     ensures none { IfNone result (IsUndivided input.now) }
@@ -134,7 +135,7 @@ pub(crate) fn divided(input: &[u8]) -> Option<(&[u8], &[u8])>
     None
 }
 
-/// The commands that are to be answered: a check and an explanation answer none.
+/// The commands that are to be answered: by a run or a service all, by a check or an explanation none.
 pub(crate) fn asked(verb: Verb, commands: Option<&[u8]>) -> Option<&[u8]>
     ensures { lines_left result ≡ asked verb (lines_left commands.entry) }
 {

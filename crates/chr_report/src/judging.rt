@@ -22,7 +22,7 @@ pub(crate) enum Judged {
 }
 
 /// The program, whose stores hash keys under a seed that the system draws, so that nobody can choose facts whose keys
-/// meet in one place. Where it draws none, they keep the one that they have.
+/// meet in one place. Where the system draws none, the stores keep their seed.
 fn with_drawn_seed(rt: &impl RandomSource, accepted: Accepted) -> Accepted
     ensures weighed { weighed_of result ≡ weighed_of accepted }
     ensures coverage { coverage_of result ≡ coverage_of accepted }

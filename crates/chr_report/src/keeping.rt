@@ -18,7 +18,7 @@ use std::sync::Wait;
 ///
 /// # Errors
 ///
-/// `Device` where a read fails, and `Memory` where no memory was left: then the reader may have been read in part.
+/// `Device` where a read fails, and `Memory` where memory was refused: then the reader may have been read in part.
 pub fn read_input<R: Read>(
     rt: &impl Wait,
     alloc: Global,

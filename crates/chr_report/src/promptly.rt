@@ -2,9 +2,9 @@
 
 use std::thread::{Threads, join_mut};
 
-/// Does what begins other threads, after one has begun that does nothing. Of several new threads a system may leave the
-/// first to wait behind the one that began it, until that one waits itself; those that come after it more often find
-/// processors of their own.
+/// Does what begins other threads, after one has begun that does nothing. A system may leave the first of several new
+/// threads to wait behind the thread that began it, until that thread waits itself. Threads after the first more often
+/// find processors of their own at once.
 pub(crate) fn promptly<R: Threads, F: FnMut() -> T, T>(rt: &R, work: &mut F) -> T
     requires { F.pre work.old }
     ensures { F.step work.old result work.new }

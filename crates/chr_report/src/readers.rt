@@ -16,36 +16,45 @@ use std::alloc::{AllocError, Global};
 use std::collections::VecDeque;
 use std::sync::{Arc, Wait};
 
-/// Less than so many bytes are no work for another thread.
+/// The least bytes of a block that another thread reads: fewer are no work for it.
 const LEAST_READ: usize = 16_384;
 
-/// A block of more bytes has a long line, and what that is read to takes many times its bytes: it is read in its turn,
-/// so that no two threads hold so much at once.
+/// The most bytes of a block that another thread reads. A longer block has a long line, which is read to something many
+/// times as large: it is read in its turn, so that no two threads hold so much at once.
 const MOST_READ: usize = 655_360;
 
-/// Tells are rested by the thread that reads them where so many bytes are read, or more: of fewer, too much may stay.
+/// The least bytes of a block whose tells are rested by the thread that reads them: of a shorter one too many atoms may
+/// be left over.
 const LEAST_RESTED: usize = 131_072;
 
-/// Whether other threads read lines before their turn, and whether they rest what these tell.
+/// What other threads do before a line's turn.
 #[derive(Clone, Copy, Debug, PartialEq, Eq)]
 pub(crate) struct Readers {
+    /// Whether they read lines.
     pub(crate) read: bool,
+    /// Whether they rest what these tell.
     pub(crate) rest: bool,
 }
 
-/// What was read of a block, unless memory was refused.
+/// What came of a task.
 #[derive(Drop)]
 pub(crate) struct Done {
+    /// The block that was read.
     pub(crate) block: Arc<Block>,
+    /// What was read of it, unless memory was refused.
     pub(crate) ahead: Option<Ahead>,
 }
 
-/// A block that is to be read, its number, whether its tells are to be rested, and from where what was read is sent.
+/// A block that another thread is to read.
 #[derive(Drop)]
 pub(crate) struct Task<K: Known<Done>> {
+    /// The block.
     pub(crate) block: Arc<Block>,
+    /// The block's number, from 1 on.
     pub(crate) number: u64,
+    /// Whether its tells are to be rested.
     pub(crate) rest: bool,
+    /// From where what was read is sent.
     pub(crate) desk: Desk<Done, K>,
 }
 
@@ -56,7 +65,7 @@ fn has_lines_of(block: &Block, other: &Block) -> bool
     block.lines() == other.lines()
 }
 
-/// Reads a block, and rests its tells with what is carried, if anything is to be rested.
+/// Reads a block, and rests its first tells with the carried atoms, if it is to be rested.
 fn read_block(
     alloc: Global,
     accepted: &Accepted,
@@ -69,7 +78,7 @@ fn read_block(
     Done { block, ahead }
 }
 
-/// What is carried to a block's lines, if they begin with a tell and that is to be rested.
+/// The atoms that are carried to a block, if it begins with a tell and is to be rested.
 fn carried_to<R: Wait>(
     rt: &R,
     alloc: Global,
@@ -82,7 +91,7 @@ fn carried_to<R: Wait>(
     carriage.take(rt, alloc, number, replica)
 }
 
-/// Does a task.
+/// Does a task: reads its block, carries on what is left over, and sends what was read.
 pub(crate) fn do_task<K: Known<Done>, R: Wait>(
     rt: &R,
     alloc: Global,
@@ -117,20 +126,26 @@ pub(crate) fn do_task<K: Known<Done>, R: Wait>(
     let _heard = desk.send(rt, done);
 }
 
-/// How other threads are asked, what is carried from block to block, how many were asked for, and where what is read of
-/// the blocks that wait will come, in order, if they were asked for. A task that no thread has begun is taken back.
+/// How the thread that answers lines asks other threads to read blocks. It takes back a task that none of them has
+/// begun.
 #[derive(Drop)]
 pub(crate) struct Asking<'a, K: Known<Done>> {
+    /// The program.
     pub(crate) accepted: &'a Accepted,
+    /// What is carried from block to block.
     pub(crate) carriage: &'a Carriage,
+    /// How many blocks have come.
     pub(crate) asked: u64,
+    /// To where tasks are sent.
     pub(crate) tasks: Sender<Task<K>>,
+    /// From where they are taken back.
     pub(crate) left: &'a Receiver<Task<K>>,
+    /// For each block that waits, in order, where what is read of it will come, if that was asked for.
     pub(crate) readings: VecDeque<Option<Inbox<Done, K>>>,
 }
 
 impl<'a, K: Known<Done>> Asking<'a, K> {
-    /// Asks for the lines of a block, if memory is left for that.
+    /// Asks for a block to be read, if there is memory for that.
     fn task<R: Wait>(
         &self,
         rt: &R,
@@ -150,7 +165,8 @@ impl<'a, K: Known<Done>> Asking<'a, K> {
         Some(inbox)
     }
 
-    /// Has one block more wait. Other threads read it meanwhile if it is long, and rest its tells if that is wanted.
+    /// Has one block more wait. Other threads read it meanwhile if its length is fit for that, and rest its tells if
+    /// that is wanted.
     pub(crate) fn ask<R: Wait>(
         &mut self,
         rt: &R,
@@ -172,7 +188,7 @@ impl<'a, K: Known<Done>> Asking<'a, K> {
             .map_err(|_refused| AllocError)
     }
 
-    /// What comes of a task. While it isn't there, blocks that no thread has begun are read here.
+    /// What came of a task. While nothing has come, blocks that no thread has begun are read here.
     fn done_of<R: Wait>(&self, rt: &R, alloc: Global, inbox: Inbox<Done, K>) -> Option<Done>
         requires { Agree K.holds (program_in self.now.accepted.now) }
         ensures { IfSome result K.holds }
@@ -206,7 +222,7 @@ impl<'a, K: Known<Done>> Asking<'a, K> {
         }
     }
 
-    /// What was read of the first block that waits, which waits no longer.
+    /// What was read of the first block that waits. That block waits no longer.
     pub(crate) fn hear<R: Wait>(&mut self, rt: &R, alloc: Global, block: &Block) -> Ahead
         requires { Agree K.holds (program_in self.old.accepted.now) }
         ensures ahead { IsAhead (program_in self.old.accepted.now) (lines_of block.now) result }
@@ -221,7 +237,7 @@ impl<'a, K: Known<Done>> Asking<'a, K> {
         }
     }
 
-    /// Lets go of the blocks that no thread has begun: where a run ends early they aren't to be read any more.
+    /// Drops the tasks that no thread has begun: where a run ends early these blocks aren't to be read any more.
     pub(crate) fn leave<R: Wait>(&self, rt: &R) {
         for _task in rt.forever() {
             if self.left.try_recv(rt).is_err() {

@@ -16,10 +16,10 @@ use chr_replica::{Destination, LeasedPart, Placed, RestedOps};
 use chr_worlds::World;
 use std::alloc::{AllocError, Global};
 
-/// So many parts are known by their numbers at most. What a thread carries that reads lines is one of the last.
+/// The most parts that are known by their numbers. What a thread that reads lines carries is one of the last of them.
 const MOST_PARTS: usize = 64;
 
-/// All atoms of operations.
+/// The atoms of all these operations.
 fn atoms_of(alloc: Global, ops: &[Op]) -> Result<Vec<Atom>, AllocError>
     ensures { IfOk result (λ atoms. store_of atoms.items ≡ sum_of ops.now) }
 {
@@ -30,7 +30,7 @@ fn atoms_of(alloc: Global, ops: &[Op]) -> Result<Vec<Atom>, AllocError>
     Ok(atoms)
 }
 
-/// Where among these numbers the one is under which the carried part is out, if it still is.
+/// The place, in the list of known parts, of the number under which the carried part is still leased out, if it is.
 fn place_of(world: &World, parts: &[u64], tells: &Tells) -> Option<usize>
     ensures { IfSome result (λ place. place < length parts.now) }
 {
@@ -43,7 +43,7 @@ fn place_of(world: &World, parts: &[u64], tells: &Tells) -> Option<usize>
     None
 }
 
-/// Where what was rested goes: what may be carried on is leased out.
+/// Where what was rested goes: it is leased out if it may be carried on.
 fn destination(tells: &Tells) -> Destination {
     if tells.goes_on {
         Destination::Lease
@@ -52,7 +52,7 @@ fn destination(tells: &Tells) -> Destination {
     }
 }
 
-/// Keeps the number of a part that was leased out, in the place of the first where there are too many.
+/// Keeps the number of a part that was leased out. Where [`MOST_PARTS`] are kept already, the first of them is dropped.
 fn push_part(parts: &mut Vec<u64>, placed: Placed) -> Result<(), AllocError> {
     let Placed::Leased(number) = placed else {
         return Ok(());
@@ -64,8 +64,8 @@ fn push_part(parts: &mut Vec<u64>, placed: Placed) -> Result<(), AllocError> {
     Ok(())
 }
 
-/// Keeps the number of a part that was leased out in the place of the one that it was made of, where it is carried on.
-/// Else no number is kept there.
+/// Keeps the number of a part that was leased out in the place of the part that it was made of, if it is carried on.
+/// Else the number in that place is dropped.
 fn put_part(parts: &mut Vec<u64>, place: usize, placed: Placed, goes_on: bool)
     requires { place < vec_len parts.old }
 {
@@ -77,7 +77,7 @@ fn put_part(parts: &mut Vec<u64>, place: usize, placed: Placed, goes_on: bool)
     }
 }
 
-/// How many of these atoms wait in the pool.
+/// How many of these atoms wait in the pool after they were placed.
 fn waiting(atoms: &Bag, placed: Placed) -> u64 {
     match placed {
         Placed::InPool => atoms.len() as u64,
@@ -113,8 +113,8 @@ fn tell_alone(
     Ok(Some(waiting(&tells.rested, placed)))
 }
 
-/// Tells a replica operations with the carried part, whose number is at that place. What becomes of both is leased out
-/// also where it is not carried on: it comes back with all other parts before the replica is shown.
+/// Tells a replica operations with the carried part, whose number is at `place`. What becomes of both is leased out
+/// even where it is not carried on: it comes back with all other parts before the replica is shown.
 fn tell_carried(
     alloc: Global,
     world: &mut World,
@@ -146,7 +146,7 @@ fn tell_carried(
     Ok(Some(0))
 }
 
-/// Tells a replica operations, whose atoms these are, as they are.
+/// Tells a replica operations, whose atoms are `atoms`, without what was made of these.
 fn tell_atoms<'a>(
     alloc: Global,
     world: &mut World,
@@ -173,7 +173,8 @@ fn tell_atoms<'a>(
     Ok(Some(waiting(atoms, placed)))
 }
 
-/// Tells a replica operations as they are, where the part that was carried to them isn't out any more.
+/// Tells a replica operations without what was made of their atoms, where the part that was carried to them is leased
+/// out no more.
 fn tell_unrested(alloc: Global, world: &mut World, tells: &Tells) -> Result<Option<u64>, AllocError>
     requires between { AreBetweenLines (shared_program world.old) world.old.replicas }
     requires rested { AreRested (shared_program world.old) tells.now }
@@ -186,8 +187,9 @@ fn tell_unrested(alloc: Global, world: &mut World, tells: &Tells) -> Result<Opti
     tell_atoms(alloc, world, tells, &atoms)
 }
 
-/// Tells a replica operations that were rested, where there is that replica and they are all new: so many atoms more
-/// wait in its pool. Else nothing changes. These numbers are those of the parts that may be carried on.
+/// Tells a replica operations that were rested, where there is that replica and they are all new, and answers how many
+/// more atoms wait in its pool. Else nothing is answered, and nothing changes. `parts` has the numbers of the parts
+/// that may be carried on.
 pub(crate) fn tell_replica(
     alloc: Global,
     world: &mut World,

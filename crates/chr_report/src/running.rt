@@ -66,7 +66,7 @@ impl Output {
     }
 }
 
-/// The verdict's line on an accepted program, and so many replicas of it, which were told nothing.
+/// The verdict's line on an accepted program, and `replicas` replicas of it, which were told nothing.
 pub(crate) fn opening(
     alloc: Global,
     accepted: Accepted,
@@ -128,8 +128,8 @@ pub(crate) fn output_of(
     }
 }
 
-/// The verdict's line, and the answers to the commands: the bytes that were read first, and all that come, if the input
-/// has not ended with those.
+/// The verdict's line, and the answers to the commands: those in `first`, and in all that comes after it, if the input
+/// has not `ended` with that.
 fn answer_read<D: Read>(
     rt: &(impl Threads + Wait + Sync),
     alloc: Global,
@@ -154,7 +154,7 @@ fn answer_read<D: Read>(
     answer_input(rt, alloc, service, first, ended, reader, line)
 }
 
-/// Reads to the end, where that was not seen yet. What comes is not held.
+/// Reads to the end, if that was not seen yet. What is read is not held.
 fn read_rest<D: Read>(rt: &impl Wait, ended: bool, reader: &mut Watched<D>) -> Result<(), RunFault>
     requires { OnTrue ended (IsAtEnd (D.remaining (inner_of reader.old))) }
     ensures end { OnOk result (IsAtEnd (D.remaining (inner_of reader.new))) }
@@ -168,8 +168,8 @@ fn read_rest<D: Read>(rt: &impl Wait, ended: bool, reader: &mut Watched<D>) -> R
     read_past(rt, reader)
 }
 
-/// The output of a run of a program text and of the commands after it, which are read to the end, if the input has not
-/// ended with the bytes that were read first.
+/// The output of a run of a program text and of the commands after it: those in `first`, and in all that comes after
+/// it, which is read to the end, if the input has not `ended` with `first`.
 fn output_of_text<D: Read>(
     rt: &(impl RandomSource + Threads + Wait + Sync),
     alloc: Global,
@@ -257,15 +257,15 @@ fn output_of_input<D: Read>(
 
 /// Reads all of the input, and then writes its output: the verdict on the program text, and by `Verb::Run` for an
 /// accepted program the answer line of each command. Commands are answered as they are read, and not held. What is
-/// written does not depend on the numbers of workers and of parts, by which stores are rested. The replicas of a run
-/// are not freed: they are left to the end of the process.
+/// written does not depend on the numbers of workers and of parts by which stores are rested. The replicas of a run are
+/// not freed: they are left to the end of the process.
 ///
 /// # Errors
 ///
-/// `Device` where the reader or the writer has failed: nothing, or a beginning of the input's output is written then,
-/// and nothing where it was the reader. `Memory` where no memory was left and neither has failed: nothing is written
-/// then.
-// Not put into its caller, whose frame would hold the room that this one takes.
+/// - `Device`: the reader or the writer has failed. Nothing is written where it was the reader; where it was the
+///   writer, nothing or a beginning of the input's output.
+/// - `Memory`: memory was refused, and neither has failed. Nothing is written.
+// Inlined, its frame would be part of the caller's, and take stack for as long as the caller runs.
 #[inline(never)]
 pub fn run<R: Read, W: Write>(
     rt: &(impl RandomSource + Threads + Wait + Sync),

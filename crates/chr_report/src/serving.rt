@@ -43,10 +43,10 @@ use std::thread::Threads;
 /// The most bytes of a read.
 const CHUNK: usize = 4_096;
 
-/// Answers of this many bytes are sent before the next line is answered, though more lines are there.
+/// The bytes of answers that are held before they are sent, though more lines are there.
 const MOST_HELD: usize = 65_536;
 
-/// Sends the answer of a line, which comes without its line feed: nothing for a blank one.
+/// Sends the answer of a line, which comes without its line feed, or nothing for a blank line.
 fn send_answer<T: Wire>(
     rt: &(impl Threads + Wait + Sync),
     alloc: Global,
@@ -71,7 +71,7 @@ fn send_answer<T: Wire>(
     wire.send(out.as_bytes())
 }
 
-/// Sends the answers that are held where they are long, and holds none then.
+/// Sends the answers that are held where they are at least [`MOST_HELD`] bytes, and holds none then.
 fn send_long<T: Wire>(answers: &mut String, wire: &mut T) -> Result<(), RunFault>
     ensures ok { OnOk result (SendsSome (T.sent wire.old) (T.sent wire.new)
         (string_bytes answers.old) (string_bytes answers.new)) }
@@ -89,8 +89,8 @@ fn send_long<T: Wire>(answers: &mut String, wire: &mut T) -> Result<(), RunFault
     Ok(())
 }
 
-/// Answers the lines that end in this chunk, and keeps what stands after them. Their answers are sent together, as far
-/// as they are not too long to be held.
+/// Answers the lines that end in this chunk, and keeps what stands after them. Their answers are sent together, unless
+/// they are too long to be held.
 fn answer_chunk<T: Wire>(
     rt: &(impl Threads + Wait + Sync),
     alloc: Global,
@@ -127,7 +127,7 @@ fn answer_chunk<T: Wire>(
     Ok(())
 }
 
-/// Answers the lines of the bytes that were read first, and then those that come, to the end of the input.
+/// Answers the lines of `first`, and then those that come, to the end of the input.
 fn converse<T: Wire>(
     rt: &(impl Threads + Wait + Sync),
     alloc: Global,
@@ -289,15 +289,15 @@ fn serve_wanted<T: Wire>(
 }
 
 /// Reads the program text, sends the verdict, and then sends the answer line of each command as soon as it has been
-/// read: it waits only where each whole line that was read is answered. A program that is refused ends it, and so does
-/// the end of the input, where a last line without a line feed is answered too. What it sends is what [`crate::run`]
-/// writes for the same input, and does not depend on the numbers of workers and of parts.
+/// read: it waits only where each whole line that was read is answered. A service ends with a program that is refused,
+/// or with the end of the input, where a last line without a line feed is answered too. What is sent is what
+/// [`crate::run`] writes for the same input, and does not depend on the numbers of workers and of parts.
 ///
 /// # Errors
 ///
-/// `Device` where the wire has failed, and `Memory` where no memory was left and it has not. Nothing, or a beginning of
-/// the input's output is sent then.
-// Not put into its caller, whose frame would hold the room that this one takes.
+/// `Device` where the wire has failed, and `Memory` where memory was refused and the wire has not failed. Nothing, or a
+/// beginning of the input's output, is sent then.
+// Inlined, its frame would be part of the caller's, and take stack for as long as the caller runs.
 #[inline(never)]
 pub fn serve<T: Wire>(
     rt: &(impl RandomSource + Threads + Wait + Sync),

@@ -6,15 +6,16 @@ ghost use Rattle.chr_device.specs.Settings.{IsWithinLimits};
 use chr_base::limits::{MAX_PARTS, MAX_WORKERS};
 use chr_device::Settings;
 
-/// In so many pools for each of several workers a store is kept, where its program allows it: what lies in a pool is to
-/// stay in a cache while it is rested.
+/// The pools in which a store is kept for each of several workers, where its program allows it: what lies in a pool is
+/// to stay in a cache while it is rested.
 const POOLS_OF_WORKER: usize = 4;
 
-/// How the resting of a store is shared out: to so many workers, in so many parts. What is answered does not depend on
-/// it.
+/// How the resting of a store is shared out. What is answered does not depend on it.
 #[derive(Clone, Copy, Debug, PartialEq, Eq)]
 pub(crate) struct Sharing {
+    /// The number of workers.
     pub workers: u32,
+    /// The number of parts.
     pub parts: u32,
     pub ghost workers_fit: { (1 ≤ workers) × (workers ≤ MAX_WORKERS) },
     pub ghost parts_fit: { (1 ≤ parts) × (parts ≤ MAX_PARTS) },
@@ -33,7 +34,7 @@ impl Sharing {
         }
     }
 
-    /// In how many pools a store is kept at most.
+    /// The most pools in which a store is kept.
     pub(crate) fn pools(self) -> usize {
         if self.workers == 1 {
             return 1;

@@ -5,15 +5,16 @@ ghost use Rattle.chr_report.specs.working.Shortened.{StandsFor};
 
 use chr_json::{MAX_LINE, is_blank};
 
-/// As many bytes are held of a line at most: also without a carriage return at its end it is longer than its limit, and
-/// refused whatever follows, unless it is blank.
+/// The most bytes that are held of a line. A line with this many is over its limit even without a carriage return at
+/// its end, and refused whatever follows, unless it is blank.
 pub(crate) const MOST_HELD: usize = MAX_LINE + 2;
 
 /// A byte that is in no blank line, and ends none.
 const NOT_BLANK: u8 = b'x';
 
-/// Cuts a line that has begun and is longer than any command. What is left is answered as the line would be, however it
-/// goes on: it is blank where that is, and its last byte may be a carriage return that belongs to the line's end.
+/// Cuts a line that has begun and is longer than any command. However the line goes on, what is left of it is answered
+/// as the line would be: it is blank where the line is, and its last byte may be a carriage return that belongs to the
+/// line's end.
 pub(crate) fn shorten(line: &mut Vec<u8>)
     ensures stands { StandsFor line.new.items line.old.items }
     ensures unended { HasNoFeed line.old.items → HasNoFeed line.new.items }

@@ -32,7 +32,8 @@ pub(crate) fn fault_line(alloc: Global, fault: &ReadFault) -> Result<String, All
     Ok(text)
 }
 
-/// The line of a program with a rule that does not lower the weight, with both numbers of each weight where `paired`.
+/// The line of a program with a rule that does not lower the weight: the weights before and after the rule, with both
+/// numbers of each where `paired`.
 pub(crate) fn not_lowered_line(
     alloc: Global,
     paired: bool,

@@ -15,7 +15,7 @@ pub struct Wanted {
 }
 
 impl Wanted {
-    /// What the settings ask for.
+    /// What the settings ask for of the verdict and of the replicas.
     pub(crate) fn from_settings(settings: Settings) -> Wanted
         ensures { result ≡ wanted_by settings }
     {

@@ -11,8 +11,8 @@ use std::io::{Read, Write};
 
 /// A peer that sends bytes and is sent bytes.
 pub trait Wire {
-    // The bytes that it has left to give and those that it was sent, where they are known; whether it has failed; and
-    // when it may be waited for.
+    // The bytes that the peer has left to give and those that it was sent, where they are known; whether it has failed;
+    // and when it may be waited for.
     ghost unread: { Self → Option (List ℕ) };
 
     ghost sent: { Self → Option (List ℕ) };
@@ -21,7 +21,7 @@ pub trait Wire {
 
     ghost may_wait: { Self → Type 0 };
 
-    /// Waits for bytes, and gives as many as are there, up to the buffer's length. None are the end.
+    /// Waits for bytes, and gives as many as are there, up to the buffer's length. Answers how many; 0 is the end.
     ///
     /// # Errors
     ///

@@ -23,11 +23,11 @@ lines_of_all (b ∷ bs) = lines_of b ++ lines_of_all bs
 abbrev pub blocks_of : Blocks → List Block
 blocks_of s = map (λ b. arc_value b) s.blocks.items
 
--- of what was read this is not answered
+-- what was read and is not answered
 abbrev pub left_of : Blocks → List ℕ
 left_of s = lines_of_all (blocks_of s) ++ s.begun.items
 
--- their lines are whole
+-- the lines of the blocks that wait are whole
 abbrev pub AreWhole : Blocks → Type 0
 AreWhole s = All (λ b. AreWholeLines (lines_of b)) (blocks_of s)
 
@@ -51,8 +51,8 @@ pub record AnswersFirst (s t : Blocks) : Type 0 where
   pub whole : AreWhole t
   pub ended : t.ended ≡ s.ended
 
--- of the first bytes and those that were read after them some are answered, by replicas that are between lines; the
--- others are left
+-- Of the first bytes and those that were read after them some are answered, by replicas that are ready for a line. The
+-- others are left.
 pub record IsInBlocks (p : Program) (first : List ℕ) (from to : Option (List ℕ)) (start : List Operations)
     (before : List ℕ) (s : Blocks) : Type 0 where
   pub ready : IsBetweenLines s.at.service

@@ -25,7 +25,7 @@ pub record Divides (text front : List ℕ) : Type 0 where
   pub text_is : (more : List ℕ) → text_of (lines (front ++ more)) ≡ text
   pub commands : (more : List ℕ) → commands_of (lines (front ++ more)) ≡ lines more
 
--- the text before the first divider that has ended, and what comes after it
+-- the text before the first divider that has ended, and what comes after that
 pub record IsDivided (bytes text rest : List ℕ) : Type 0 where
   pub front : List ℕ
   pub are : bytes ≡ front ++ rest

@@ -14,7 +14,7 @@ use Rattle.chr_report.specs.declared.gathering.Tells.{Tells}
 use Rattle.chr_report.specs.declared.request.Request.TheVariants as request
 use Rattle.chr_report.specs.working.Requests.{AsksFirst}
 
--- the first lines of a text's last bytes tell a replica these operations, and so many bytes come after them
+-- the first lines of a text's last `left` bytes tell the replica r these operations, and `more` bytes come after them
 abbrev pub TellFirst : Program → List ℕ → ℕ → ℕ → List Operation → ℕ → Type 0
 TellFirst p text r left [] more = left ≡ more
 TellFirst p text r left (op ∷ ops) more =
@@ -24,18 +24,20 @@ TellFirst p text r left (op ∷ ops) more =
 abbrev pub ReachTogether : Program → Store → List Operation → Store → Type 0
 ReachTogether p before ops s = Reaches (Step (rules_of p)) (before ⊕ sum_of ops) s
 
--- so many lines were read, and the pool has what their atoms reach with those that are carried
+-- the lines that were read tell the operations, and the pool has what their atoms reach together with those that were
+-- carried
 pub record IsGathered (p : Program) (text : List ℕ) (g : Gathering) : Type 0 where
   pub lines : TellFirst p text g.replica g.left g.ops.items g.more
   pub own : program_of g.pool.weighed ≡ p
   pub reached : ReachTogether p g.carried.part g.ops.items g.pool.store
 
--- these are operations of the program, whose atoms reach what was rested with those that were carried
+-- the program declares the operations, and what was rested is reached by their atoms together with those that were
+-- carried
 pub record AreRested (p : Program) (t : Tells) : Type 0 where
   pub declared : All (IsDeclared p) t.ops.items
   pub reached : ReachTogether p t.carried.part t.ops.items t.rested
 
--- and lines of the text tell them, one at least
+-- lines of the text, one at least, tell the operations, and their atoms were rested
 pub record AreTells (p : Program) (text : List ℕ) (t : Tells) : Type 0 where
   pub some : t.more < t.left
   pub lines : TellFirst p text t.replica t.left t.ops.items t.more

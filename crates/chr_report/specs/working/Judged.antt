@@ -21,6 +21,6 @@ IsJudged coverage answer (judged.Refused line) =
     (replicas : ℕ) (commands : List (List ℕ))
     → IsReadOutput answer (replicas_by coverage replicas) commands Refused (string_bytes line)
 
--- this is known of what answers the text
+-- what was judged fits the answer to which the text is read
 abbrev pub IsJudgedText : Coverage → List ℕ → Judged → Type 0
 IsJudgedText coverage text j = (answer : Result Program ReadFault) × IsAnswer text answer × IsJudged coverage answer j

@@ -10,7 +10,7 @@ use Rattle.chr_report.specs.working.BlockLines.{lines_of}
 abbrev pub IsRead : Program → Done → Type 0
 IsRead p d = IfSome d.ahead (IsAhead p (lines_of (arc_value d.block)))
 
--- this holds of just what was read so
+-- `holds` holds of just those readings that are what the lines of their block ask for
 pub record Agree (holds : Done → Type 0) (p : Program) : Type 0 where
   pub there : (d : Done) → IsRead p d → holds d
   pub back : (d : Done) → holds d → IsRead p d

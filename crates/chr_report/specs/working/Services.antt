@@ -35,11 +35,11 @@ IsBetweenLines s = AreBetweenLines (served s) s.world.replicas
 abbrev pub IsIdle : Replica → Type 0
 IsIdle s = s.out ≡ finite.empty
 
--- none is of the replica of a number, if any
+-- no part is leased out of the replica r, if it exists
 abbrev pub AreIdle : Service → ℕ → Type 0
 AreIdle s r = (t : Replica) → IsAt s.world.replicas r t → IsIdle t
 
--- nor is any then, and it is at rest
+-- no part is leased out of the replica r, if it exists, and it is at rest
 abbrev pub AreAtRest : Service → ℕ → Type 0
 AreAtRest s r = (t : Replica) → IsAt s.world.replicas r t → IsSettled (served s) t
 

@@ -31,18 +31,18 @@ pub record SendsAnswer (ds : List Declaration) (rules : List Rule) (line : List 
   pub answer : AnswersLine ds rules old (without_return line) [] now text
   pub is_written : IsWritten text
 
--- nothing of it, or a beginning
+-- a fault came while a line was answered: nothing of its answer is written, or a beginning
 abbrev pub IsCut :
     List Declaration → List Rule → List ℕ → List Operations → Option (List ℕ) → Option (List ℕ) → Type 0
 IsCut ds rules line old before after =
     Appends before after []
     ⊎ ((now : List Operations) × SendsAnswer ds rules line old now (AppendsPart before after))
 
--- of what is held a beginning is sent, and the rest is held still
+-- a beginning of what is held is sent, and the rest is held still
 abbrev pub SendsSome : Option (List ℕ) → Option (List ℕ) → List ℕ → List ℕ → Type 0
 SendsSome old new holds left = (sent : List ℕ) × Appends old new sent × (holds ≡ sent ++ left)
 
--- whole lines are answered, and one that has begun is left
+-- the whole lines of the bytes are answered, and one that has begun is left
 pub record AnswersChunk (ds : List Declaration) (rules : List Rule) (bytes left : List ℕ)
     (old now : List Operations) (before after : Option (List ℕ)) : Type 0 where
   pub front : List ℕ
@@ -53,7 +53,7 @@ pub record AnswersChunk (ds : List Declaration) (rules : List Rule) (bytes left 
   pub answers : AnswersFront ds rules front old out now
   pub written : Appends before after out
 
--- of the answers of whole lines a beginning is written
+-- whole lines of the bytes are answered, and a beginning of their answers is written
 pub record AnswersPart (ds : List Declaration) (rules : List Rule) (bytes : List ℕ) (old : List Operations)
     (before after : Option (List ℕ)) : Type 0 where
   pub front : List ℕ
@@ -64,14 +64,14 @@ pub record AnswersPart (ds : List Declaration) (rules : List Rule) (bytes : List
   pub answers : AnswersFront ds rules front old out now
   pub written : AppendsPart before after out
 
--- so it is after more bytes were read
+-- after more bytes were read, the whole lines of all are answered, and one that has begun is left
 pub record AnswersFrontRead (ds : List Declaration) (rules : List Rule) (first : List ℕ) (from to : Option (List ℕ))
     (left : List ℕ) (old now : List Operations) (before after : Option (List ℕ)) : Type 0 where
   pub bytes : List ℕ
   pub read : Consumes from to bytes
   pub chunk : AnswersChunk ds rules (first ++ bytes) left old now before after
 
--- there are answers of the first bytes and of all that the reader gives, of which IsWritten holds
+-- there are answers of the first bytes and of all that the reader gives, which fit `IsWritten`
 pub record AnswersInput (ds : List Declaration) (rules : List Rule) (first : List ℕ) (known : Option (List ℕ))
     (old : List Operations) (IsWritten : List ℕ → Type 0) : Type 0 where
   pub input : List ℕ
@@ -94,7 +94,8 @@ pub record AnswersCommands (answer : Result Program ReadFault) (wanted : Wanted)
   pub output : IsReadOutput answer wanted (lines front) Accepted out
   pub written : Appends old new out
 
--- there is an output of the text, and of the commands that are the first bytes and all that the reader gives
+-- there is an output of the text, and of the commands in the first bytes and in all that the reader gives, which fits
+-- `IsWritten`
 pub record WritesText (IsAnswered : Result Program ReadFault → Type 0) (first : List ℕ) (known : Option (List ℕ))
     (wanted : Wanted) (status : Status) (IsWritten : List ℕ → Type 0) : Type 0 where
   pub input : List ℕ
@@ -105,14 +106,14 @@ pub record WritesText (IsAnswered : Result Program ReadFault → Type 0) (first 
   pub output : IsReadOutput answer wanted (lines (first ++ input)) status out
   pub is_written : IsWritten out
 
--- nothing is written, or a beginning of such an output
+-- nothing is written, or a beginning of an output of the text and of the commands
 abbrev pub WritesTextPart :
     (Result Program ReadFault → Type 0) → List ℕ → Option (List ℕ) → Wanted → Option (List ℕ) → Option (List ℕ) → Type 0
 WritesTextPart IsAnswered first known wanted old new =
     Appends old new []
     ⊎ ((status : Status) × WritesText IsAnswered first known wanted status (AppendsPart old new))
 
--- the verdict on an accepted program, and then the answers of any commands
+-- the verdict on an accepted program, after which the answers of any commands may come
 abbrev pub IsOpened : Program → Wanted → List Operations → List ℕ → Type 0
 IsOpened p wanted start verdict =
     (commands : List (List ℕ)) (answers : List ℕ) → AnswersAll (declarations p) (rules_of p) commands start answers

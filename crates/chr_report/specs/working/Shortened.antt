@@ -4,7 +4,7 @@ use Rattle.chr_json.specs.Lines.{is_blank_line}
 use Rattle.chr_json.specs.Reads.{line_said}
 use Rattle.chr_report.specs.Lines.{without_return}
 
--- both are blank or neither is, and they say the same
+-- both lines are blank or neither is, and both say the same
 abbrev pub AreAlike : List ℕ → List ℕ → Type 0
 AreAlike a b = (is_blank_line a ≡ is_blank_line b) × (line_said a ≡ line_said b)
 
