@@ -11,7 +11,7 @@ use Rattle.chr_ops.specs.Ids.{id_cmp}
 pub id_total : IsTotalOrder id_cmp
 id_total = then_total (on_total (λ a. a.origin) nat_cmp_total) (on_total (λ a. a.number) nat_cmp_total)
 
--- ids that compare alike are one
+-- ids that compare as equal are one
 pub id_exact : IsAntisymmetric id_cmp
 id_exact a b h =
     ap (λ (p : ℕ × ℕ). record { origin = p.0; number = p.1 })

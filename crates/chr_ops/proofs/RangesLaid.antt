@@ -160,7 +160,7 @@ lifted m n r ids none same without = map.same_map id_total id_exact r m
     by q true a = sym (none q a)
     by q false a = same q a
 
--- one more of the ids
+-- an id is one of the ids so far, or the next one
 stepped : (past here : Bool) (x y : ℕ) (o : Option ℕ) → (here ≡ true → x ≡ y)
     → cond here (Some x) (cond past (Some y) o) ≡ cond (past || here) (Some y) o
 stepped true true x y o h = ap Some (h refl)

@@ -132,7 +132,7 @@ ids_inserted m n ids k v h q =
 pub ids_none : (m : Operations) → AddsIds m [] m
 ids_none m q = sym (or-false (map.contains_key m q))
 
--- one more of a list of ids is taken out
+-- the next id of a list is taken out after those before it
 pub without_removed : {X : Type 0} (before now : map.FinMap id_cmp X) (ids : List OpId) (i : ℕ) (d : OpId)
     → i < length ids → IsWithout now (take i ids) before → IsWithout (map.remove now (get_or ids i d))
     (take (i + 1) ids) before

@@ -52,7 +52,7 @@ impl Model for Board {
     ghost invariant = { λ b. IsBoard (arc_value b.accepted) b.ops b.pool b.out b.next };
 }
 
-/// What is derived would be proved again in each crate that lets a board go.
+/// Written out, since a derived one would be proved again in each crate that drops a board.
 impl Drop for Board {
     fn drop(self) {
         let Board {

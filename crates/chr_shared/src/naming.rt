@@ -25,14 +25,14 @@ impl Naming for Brand {
 
 /// A book that is about to be shared, with the table that ties its seats to its journal.
 #[derive(Drop)]
-// The book, which no thread uses yet.
 pub struct Opening {
-    // What ties the receipts of the seats to the journal.
+    // The book, which no thread uses yet.
     pub(crate) book: Book,
-    // The view of the table that has the journal since the opening.
+    // What ties the receipts of the seats to the journal.
     pub(crate) table: TieTable,
-    // How many seats there will be.
+    // The view of the table that has the journal since the opening.
     pub(crate) pass: Pass,
+    // How many seats there will be.
     pub(crate) seats: u32,
 }
 

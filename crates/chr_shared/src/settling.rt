@@ -53,7 +53,8 @@ impl<J: Naming> Shared<J> {
             .take_parts(alloc, &self.table, seat, parts)
     }
 
-    /// Puts what came of the part that was leased out under `number`. An error is answered where it came of another part.
+    /// Puts what came of the part that was leased out under `number`. An error is answered where it came of another
+    /// part.
     fn put_back<R: Wait>(
         &self,
         rt: &R,

@@ -58,7 +58,7 @@ IsSameBut m ids n = (q : OpId) → is_one_of ids q ≡ false → map.get n q ≡
 abbrev pub next_id : OpId → OpId
 next_id id = record { origin = id.origin; number = id.number + 1 }
 
--- whether q is an id or the one after it: where a range that has the id alone may touch others, it does so at these
+-- whether q is an id or the one after it: at these two a range that has the id alone may touch others
 abbrev pub is_beside : OpId → OpId → Bool
 is_beside q id = eq_by_cmp id_cmp q id || eq_by_cmp id_cmp q (next_id id)
 

@@ -131,7 +131,7 @@ fn what_was_rested_goes_into_the_pool(rt: HostRuntime) {
 /// A board, and an operation that it is to be told with a part that it has leased out.
 #[derive(Drop)]
 struct Carrying {
-    /// It has leased the part out under 1.
+    /// A board that has leased the part out under 1.
     board: Board,
     /// The part.
     part: Bag,
