@@ -21,7 +21,7 @@ pub fn count(rt: &impl Print, what: &str, number: u64) {
     let _ = println!(rt; "{what} {number}");
 }
 
-/// Adds an atom that is there `count` times: after this number, where it is more than 1.
+/// Adds an atom that is there `equal` times: after this number, where it is more than 1.
 fn push_atom(
     alloc: Global,
     text: &mut String,

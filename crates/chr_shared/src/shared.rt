@@ -21,7 +21,8 @@ use std::marker::PhantomData;
 use std::slice;
 use std::sync::{Mutex, Wait};
 
-/// A book that threads share.
+/// A book that threads share. Each call of a seat, but for [`Shared::settle_with`], is one act under the book's lock,
+/// and answers its receipt. Where memory for the call is refused, the act is handed back, and nothing has happened.
 #[derive(Drop)]
 pub struct Shared<J: Naming> {
     pub(crate) table: TieTable,

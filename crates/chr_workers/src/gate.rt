@@ -15,8 +15,8 @@ impl Gate for OpenGate {
     fn pass(&self, _part: u32) {}
 }
 
-/// A lease with which a gate was passed. Only [`Passed::by`] makes one, and only such a value can be rested: so no
-/// worker rests a part before it has passed the gate.
+/// A lease with which a gate was passed. Only [`Passed::by`] makes one, and what comes of a rested part is made
+/// of nothing else: so no worker rests a part before it has passed the gate.
 #[derive(Drop)]
 pub(crate) struct Passed {
     lease: Lease,

@@ -59,7 +59,7 @@ pub fn accepted(rt: &(impl Abort + Threads + Sync), alloc: Global, text: &str) -
     accepted_of(rt, alloc, text).expect(rt, "an accepted program")
 }
 
-/// A world of `count` replicas of the program, 1 to [`MAX_REPLICAS`].
+/// A world of `replicas` replicas of the program, 1 to [`MAX_REPLICAS`].
 pub fn world_of(
     rt: &(impl Abort + Threads + Sync),
     alloc: Global,
