@@ -42,22 +42,22 @@ const FIRST_BLOCK: usize = 16_384;
 /// The most bytes of a block: what was read is to be in a cache still when it is answered.
 const MOST_BLOCK: usize = 524_288;
 
-/// The most bytes of a block where threads that read rest nothing: what was told is to be in a cache when it is rested,
-/// too.
+/// The most bytes of a block where the threads that read blocks don't rest what these tell: what was told is to be in a
+/// cache when it is rested, too.
 const MOST_UNRESTED_BLOCK: usize = 262_144;
 
-/// How many blocks for each worker are read, or are to be read, before the first of them is answered, where threads
-/// that read rest nothing.
+/// How many blocks for each worker are read, or are to be read, before the first of them is answered, where the threads
+/// that read blocks don't rest what these tell.
 const BLOCKS_AHEAD: usize = 2;
 
-/// How many blocks for each worker are read, or are to be read, before the first of them is answered, where threads
-/// that read rest what is told: of few such tasks the last one would be waited for.
+/// How many blocks for each worker are read, or are to be read, before the first of them is answered, where the threads
+/// that read blocks rest what these tell: with fewer such tasks the last one would be waited for.
 const RESTED_AHEAD: usize = 4;
 
 /// The most blocks that are read ahead, for any number of workers.
 const MOST_AHEAD: usize = 32;
 
-/// The bytes that wait for each worker when no more are read: what comes of a block takes several times its bytes, and
+/// How many bytes wait for each worker when no more are read: what comes of a block takes several times its bytes, and
 /// a block of long lines has more of these than others.
 const MOST_WAITING: usize = 1_048_576;
 
@@ -173,8 +173,8 @@ impl Blocks {
         })
     }
 
-    /// The most blocks that wait. They are fewer where threads that read rest nothing: then other blocks wait for the
-    /// thread that answers.
+    /// The most blocks that wait. They are fewer where the threads that read blocks don't rest what these tell: then
+    /// other blocks wait for the thread that answers.
     fn most(&self) -> usize {
         let workers = self.at.service.sharing.workers as usize;
         if workers == 1 {

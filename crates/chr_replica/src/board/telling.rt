@@ -248,10 +248,10 @@ impl Board {
     }
 
     /// Tells operations that are all new, where some steps have made `told.rested` of their atoms and of the carried
-    /// part, if any: that part comes back, and what was rested goes into the pool, or is leased out. Nothing is answered,
-    /// and nothing changes, where an operation is not new, where more than [`MAX_TOLD`](chr_ops::MAX_TOLD) atoms would be
-    /// told, where the carried part is not out under its number, and where what was rested is to be leased out and the
-    /// lease numbers are used up. It does not look at the operations' atoms.
+    /// part, if any: that part comes back, and what was rested goes into the pool, or is leased out. Nothing is
+    /// answered, and nothing changes, where an operation is not new, where more than [`MAX_TOLD`](chr_ops::MAX_TOLD)
+    /// atoms would be told, where the carried part is not out under its number, and where what was rested is to be
+    /// leased out and the lease numbers are used up. It does not look at the operations' atoms.
     pub fn tell_rested(
         &mut self,
         alloc: Global,
