@@ -107,8 +107,7 @@ fn push_last(blocks: &mut VecDeque<Arc<Block>>, block: Arc<Block>) -> Result<(),
     Ok(())
 }
 
-/// Rests what was told, where so many atoms wait that workers are to rest them. Threads that read lines go on
-/// meanwhile.
+/// Rests what was told, where enough atoms wait for workers to rest them. Threads that read lines go on meanwhile.
 fn rest_told<R: Threads + Wait + Sync>(
     rt: &R,
     alloc: Global,
@@ -188,7 +187,7 @@ impl Blocks {
         ahead.saturating_mul(workers).min(MOST_AHEAD)
     }
 
-    /// Whether the blocks that wait have so many bytes that some are to be answered before more are read.
+    /// Whether the blocks that wait have enough bytes: then some are to be answered before more are read.
     fn is_full(&self) -> bool {
         let workers = self.at.service.sharing.workers as usize;
         let mut waiting = 0usize;
