@@ -63,6 +63,8 @@ REACH = (
 )
 UNEQUAL = ":- chr_constraint keep/2, item/2.\nkeep(K,V) \\ item(K,W) <=> V =\\= W | true.\n"
 RECTANGLE = ":- chr_constraint limit/2, point/2.\nlimit(X,Y) \\ point(A,B) <=> A > X, B > Y | true.\n"
+BETWEEN = ":- chr_constraint a/2, b/2, c/2.\na(K,X), b(K,Y) \\ c(K,Z) <=> X < Z, Z < Y | true.\n"
+NEVER = ":- chr_constraint a/0.\na, a, a <=> 1 > 2 | a, a.\n"
 RULES = ":- chr_constraint kind/2.\n" + "".join(f"kind({k},X) \\ kind({k},X) <=> true.\n" for k in range(64))
 
 
@@ -86,6 +88,13 @@ def linked(n: int, i: int, edge: Callable[[int], int]) -> Fact:
         return "seen", 0
     node = i - n // 2 + 1
     return "edge", edge(node), node
+
+
+def apart(n: int, i: int, rng: random.Random) -> Fact:
+    """Each a is above each b, so that no c is between an a below it and a b above it."""
+    kind = "abc"[i % 3]
+    value = rng.randrange(VALUES)
+    return kind, 1, {"a": VALUES + value, "b": value, "c": 2 * value}[kind]
 
 
 def one_in_four(n: int, i: int, rng: random.Random) -> Fact:
@@ -211,6 +220,10 @@ WORKLOADS = {
         lambda n, i, rng: ("point", i * 7919 % n, n - i * 7919 % n) if i < n - 1 else ("limit", n // 2, n // 4),
         wide=True,
     ),
+    "between": Workload(
+        "values that none of the pairs of one key has between them, in no order", BETWEEN, apart, wide=True
+    ),
+    "never": Workload("equal facts under a guard that never holds", NEVER, lambda n, i, rng: ("a",)),
     "rules": Workload(
         "64 rules of one symbol, each with a constant of its own",
         RULES,

@@ -2,12 +2,13 @@
 use Rattle.std.proofs.Common.{◌≡◌, ℕ, ◌<◌, List, [], ◌∷◌, length, get_or, map, take, Bool, true, false, arith}
 use Rattle.std.proofs.Common.{sym, ap, ◌∙◌}
 use Rattle.std.proofs.Common.{inl, inr, refl}
-use Rattle.std.specs.Prelude.{Option, Some, None, IfNone, is_some, not, option_map, slice_get}
+use Rattle.std.specs.Prelude.{if◌then◌else◌, Option, Some, None, IfNone, is_some, not, option_map, slice_get}
 use Rattle.std.proofs.lemmas.Option.{slice_get_cases, slice_get-get_or, same_Some}
 use Rattle.std.proofs.lemmas.Bool.{and_parts}
 use Rattle.chr_base.specs.declared.atom.Atom.{Atom}
 use Rattle.chr_base.specs.declared.rule.Rule.{Rule}
 use Rattle.chr_plans.specs.declared.key.Key.{Key}
+use Rattle.chr_plans.specs.declared.key.Limit.{Limit}
 use Rattle.chr_plans.specs.declared.key.Source.{Source}
 use Rattle.chr_plans.specs.declared.key.Source.TheVariants.{Constant, Argument}
 use Rattle.chr_plans.specs.declared.plan.Lookup.{Lookup}
@@ -15,9 +16,10 @@ use Rattle.chr_plans.specs.declared.rows.Seat.{Seat}
 use Rattle.chr_plans.specs.Keys.{source_value, key_of}
 use Rattle.chr_plans.specs.Rows.{Tables, Columns}
 use Rattle.chr_plans.specs.Seats.{head, seat}
-use Rattle.chr_plans.specs.Plans.{IsPlan, IsReady, AreKeys, FitsTables, columns_of, partners_of}
-use Rattle.chr_plans.specs.working.Searching.{NoneFrom, looked_in, is_ready, are_ready, IsIndexed, IsMissing}
-use Rattle.chr_plans.proofs.Values.{key_known, shape_known}
+use Rattle.chr_plans.specs.Plans.{IsPlan, IsReady, AreKeys, AreLimits, FitsTables, columns_of, partners_of}
+use Rattle.chr_plans.specs.working.Searching.{NoneFrom, looked_in, is_ready, are_ready, known_limits}
+use Rattle.chr_plans.specs.working.Searching.{IsIndexed, IsMissing}
+use Rattle.chr_plans.proofs.Values.{key_known, limits_known, shape_known}
 use Rattle.chr_plans.proofs.Places.{partner_is, partners_len}
 use Rattle.chr_plans.proofs.Searches.{is_other}
 use Rattle.chr_plans.proofs.Making.{known_at}
@@ -39,6 +41,20 @@ ready_keys r places p j n q [] are all = tt
 ready_keys r places p j n q (k ∷ ks) are all =
     let w = and_parts (is_ready (p ∷ take n places) k.source) _ all in
     (ready_at places p n k.source w.0, are.1, ready_keys r places p j n q ks are.2 w.1)
+
+-- limits that are known sooner than their head is looked for
+ready_limits : (r : Rule) (places : List ℕ) (p j n q : ℕ) (ls : List Limit) → AreLimits r places p j q ls
+    → AreLimits r places p n q (known_limits (p ∷ take n places) ls)
+ready_limits r places p j n q [] are = tt
+ready_limits r places p j n q (l ∷ ls) are =
+    by (is_ready (p ∷ take n places) l.source) refl (ready_limits r places p j n q ls are.2)
+  where
+    by : (b : Bool) → is_ready (p ∷ take n places) l.source ≡ b
+        → AreLimits r places p n q (known_limits (p ∷ take n places) ls)
+        → AreLimits r places p n q
+        (if b then l ∷ known_limits (p ∷ take n places) ls else known_limits (p ∷ take n places) ls)
+    by true e rest = (ready_at places p n l.source e, are.1, rest)
+    by false e rest = rest
 
 -- each look-up that fits the tables has an index
 pub all_indexed : (r : Rule) (rows : Tables) (lookups : List Lookup) (columns : Columns)
@@ -71,8 +87,16 @@ none_from r rows columns p lookups n heads seats plan fits missing hs ss s same 
     key_known r (looked_in lookups) p n l.partner.place hs heads ss seats l.partner.key.items s.instance same
     (ready_keys r (looked_in lookups) p j n l.partner.place l.partner.key.items
     (plan.keys j l.partner within (partner_is lookups j l left here)) missing.4) in
+    let lives = ap (λ t. rows t (seat ss l.partner.place).row) (sym table) ∙ there in
     missing.5 (seat ss l.partner.place).row (
       head hs l.partner.place,
-      ap (λ t. rows t (seat ss l.partner.place).row) (sym table) ∙ there,
+      lives,
       ap (option_map (λ cs. key_of cs (head hs l.partner.place))) (fits.index j l left here) ∙ ap Some key,
+    ) (
+      head hs l.partner.place,
+      lives,
+      limits_known r (looked_in lookups) p n l.partner.place hs heads ss seats
+          (known_limits (p ∷ take n (looked_in lookups)) l.partner.limits.items) s.instance same
+          (ready_limits r (looked_in lookups) p j n l.partner.place l.partner.limits.items
+          (plan.limits j l.partner within (partner_is lookups j l left here))),
     )

@@ -1,11 +1,11 @@
 -- What is made is a plan.
 use Rattle.std.proofs.Common.{◌≡◌, ℕ, ℤ, zero, suc, ◌+◌, ◌<◌, List, [], ◌∷◌, ◌++◌, length, get_or, take, Bool, true}
 use Rattle.std.proofs.Common.{false, nat_eq, refl, sym, ap, ◌∙◌, arith, subst, inl, inr, Option}
-use Rattle.std.specs.Prelude.{Some, None, option_map, ◌||◌, if◌then◌else◌}
+use Rattle.std.specs.Prelude.{Some, None, option_map, ◌||◌, if◌then◌else◌, not, pos, ◌-◌}
 use Rattle.std.proofs.Common.{Ordering}
 use Rattle.std.specs.Ordering.{int_cmp, ordering_reverse}
 use Rattle.std.specs.declared.cmp.Ordering.TheVariants as order
-use Rattle.std.proofs.lemmas.Cmp.{int_cmp_total}
+use Rattle.std.proofs.lemmas.Cmp.{int_cmp_total, tied_itself}
 use Rattle.chr_plans.specs.Seats.{head}
 use Rattle.std.specs.FinMap.{int_cmp-IsAntisymmetric}
 use Rattle.std.specs.List.{list_any, IsDistinct}
@@ -36,6 +36,7 @@ use Rattle.chr_plans.specs.Planning.{is_in, column_of, variable_source, direct_s
 use Rattle.chr_plans.specs.Planning.{equal_source, term_source, with_key, keys_from, test_by, test_of, with_test}
 use Rattle.chr_plans.specs.Planning.{tests_from, turned, own_column, limit_by, limit_of, with_limit, limits_from}
 use Rattle.chr_plans.specs.Planning.{IsLongest, AreLongest}
+use Rattle.chr_plans.specs.Planning.{fixed_by, fails, never_holds, never_fires, no_pass, tests_at}
 use Rattle.chr_plans.specs.working.Choosing.{ArePlaces}
 use Rattle.chr_plans.proofs.Values.{term_at, no_term, argument_value}
 use Rattle.chr_plans.proofs.Distinct.{in_list, in_take, place_at, apart, few, distinct_more, places_more}
@@ -238,6 +239,54 @@ tests_sound r places before p n (c ∷ cs) holds =
         let is = test_sound r places p n c t (λ v g. (and_parts (comparison_holds v c) _ (holds v g)).0) e in
         (is.0, is.1, is.2, rest)
 
+-- a comparison that never holds is false
+never_sound : (v : Valuation) (c : Comparison) → never_holds c ≡ true → comparison_holds v c ≡ false
+never_sound v c e = by c.cmp c.left c.right e
+  where
+    flipped : (b : Bool) → not b ≡ true → b ≡ false
+    flipped true e = absurd (let f : false ≡ true = e in cc)
+    flipped false e = refl
+
+    none : fails None ≡ true → ⊥
+    none e = let f : false ≡ true = e in cc
+
+    by : (k : Cmp) (t u : Term) → fails (fixed_by k t u) ≡ true
+        → compares k (int_cmp (term_value v t) (term_value v u)) ≡ false
+    by k (term.Constant c) (term.Constant d) e = flipped (compares k (int_cmp c d)) e
+    by k (term.Constant c) (term.Variable x) e = absurd (none e)
+    by k (term.Variable x) (term.Constant c) e = absurd (none e)
+    by k (term.Variable x) (term.Variable y) e = same (nat_eq x y) refl e
+      where
+        same : (b : Bool) → nat_eq x y ≡ b
+            → fails (if b then Some (record { left = Constant (pos 0); cmp = k; right = Constant (pos 0) }) else None)
+            ≡ true → compares k (int_cmp (v x) (v y)) ≡ false
+        same false f e = absurd (none e)
+        same true f e =
+            ap (λ z. compares k (int_cmp (v x) (v z))) (sym ((unsigned_Decides x y).0 f))
+            ∙ ap (compares k) (tied_itself int_cmp_total (v x)) ∙ flipped (compares k order.Equal) e
+
+-- a guard with a comparison that never holds is false
+never_guard : (v : Valuation) (cs : List Comparison) → list_any never_holds cs ≡ true → guard_holds v cs ≡ true → ⊥
+never_guard v [] e g = let f : false ≡ true = e in cc
+never_guard v (c ∷ cs) e g =
+    let w = and_parts (comparison_holds v c) _ g in
+    by w.0 (λ h. never_guard v cs h w.1) (never_holds c) refl e
+  where
+    by : comparison_holds v c ≡ true → (list_any never_holds cs ≡ true → ⊥) → (b : Bool) → never_holds c ≡ b
+        → (b || list_any never_holds cs) ≡ true → ⊥
+    by holds more true f h = let z : false ≡ true = sym (never_sound v c f) ∙ holds in cc
+    by holds more false f h = more h
+
+-- the tests at a place are tests
+tests_at_sound : (r : Rule) (places : List ℕ) (p n : ℕ) → AreTests r places p n (tests_at r (p ∷ take n places))
+tests_at_sound r places p n = by (never_fires r) refl
+  where
+    by : (b : Bool) → never_fires r ≡ b
+        → AreTests r places p n (if b then no_pass ∷ [] else tests_from r
+        (take (length (p ∷ take n places) - 1) (p ∷ take n places)) (p ∷ take n places) r.guard.items)
+    by true e = (tt, tt, (λ heads h. absurd (never_guard h.0 r.guard.items e h.2)), tt)
+    by false e = tests_sound r places _ p n r.guard.items (λ v g. g)
+
 -- a comparison, told from the other side
 turned_order : (k : Cmp) (o : Ordering) → compares (turned k) o ≡ compares k (ordering_reverse o)
 turned_order Less order.Less = refl
@@ -362,7 +411,7 @@ is_plan r p ps longest distinct places all = record {
   once = λ i j h l e. apart (p ∷ places_of ps) (suc i) (suc j) distinct (omega (arith, h)) (omega (arith, m, l)) e;
   keys = λ j l h here. (rw (longest j l h here).key (keys_sound r (places_of ps) p j l.place 0
       (pattern_at r l.place).args.items (λ k g. ap (term_at r l.place) (omega arith))));
-  tests = λ j l h here. (rw (longest j l h here).tests (tests_sound r (places_of ps) _ p j r.guard.items (λ v g. g)));
+  tests = λ j l h here. (rw (longest j l h here).tests (tests_at_sound r (places_of ps) p j));
   limits = λ j l h here. (elim (longest j l h here).limits as (λ _. AreLimits r
       (places_of ps) p j l.place l.limits.items) [
         | inl e ↦ rw e tt

@@ -1,6 +1,6 @@
 -- The plan that is made: which arguments are known, and which partner is next.
 use Rattle.std.specs.Prelude.{◌≡◌, ℕ, ◌+◌, ◌-◌, ◌<◌, ◌≤◌, ◌⊎◌, List, [], ◌∷◌, length, get_or, take, Option, Some, None}
-use Rattle.std.specs.Prelude.{option_map, if◌then◌else◌, Bool, true, false, nat_eq}
+use Rattle.std.specs.Prelude.{option_map, if◌then◌else◌, Bool, true, false, nat_eq, not, pos}
 use Rattle.std.specs.List.{list_any}
 use Rattle.std.specs.Option.{option_or, option_and_then}
 use Rattle.chr_base.specs.declared.term.Term.{Term}
@@ -17,6 +17,7 @@ use Rattle.chr_plans.specs.declared.key.Key.{Key}
 use Rattle.chr_plans.specs.declared.key.Test.{Test}
 use Rattle.chr_plans.specs.declared.key.Limit.{Limit}
 use Rattle.chr_plans.specs.declared.plan.Partner.{Partner}
+use Rattle.chr_plans.specs.Keys.{passes}
 use Rattle.chr_plans.specs.Plans.{pattern_at, places_of}
 
 -- the place is one of these
@@ -104,9 +105,39 @@ tests_from r before known [] = []
 tests_from r before known (c ∷ cs) =
     with_test (test_of r before c) (test_of r known c) (tests_from r before known cs)
 
--- the tests of the guard that the last known head allows
+-- a comparison of constants, or of a variable with itself, as a test of constants
+abbrev pub fixed_by : Cmp → Term → Term → Option Test
+fixed_by k (term.Constant c) (term.Constant d) = Some (record { left = Constant c; cmp = k; right = Constant d })
+fixed_by k (term.Constant c) (term.Variable x) = None
+fixed_by k (term.Variable x) (term.Constant c) = None
+fixed_by k (term.Variable x) (term.Variable y) =
+    if nat_eq x y then Some (record { left = Constant (pos 0); cmp = k; right = Constant (pos 0) }) else None
+
+-- a comparison whose outcome hangs on no values, as a test
+abbrev pub fixed_test : Comparison → Option Test
+fixed_test c = fixed_by c.cmp c.left c.right
+
+-- there is a test, which fails
+abbrev pub fails : Option Test → Bool
+fails None = false
+fails (Some t) = not (passes [] t)
+
+-- the comparison holds under no values
+abbrev pub never_holds : Comparison → Bool
+never_holds c = fails (fixed_test c)
+
+-- a comparison of the guard holds under no values
+abbrev pub never_fires : Rule → Bool
+never_fires r = list_any never_holds r.guard.items
+
+-- a test that nothing passes
+abbrev pub no_pass : Test
+no_pass = record { left = Constant (pos 0); cmp = NotEqual; right = Constant (pos 0) }
+
+-- the tests of the guard that the last known head allows, or one that nothing passes where the guard never holds
 abbrev pub tests_at : Rule → List ℕ → List Test
-tests_at r known = tests_from r (take (length known - 1) known) known r.guard.items
+tests_at r known =
+    if never_fires r then no_pass ∷ [] else tests_from r (take (length known - 1) known) known r.guard.items
 
 -- the comparison sign for the sides in the other order
 abbrev pub turned : Cmp → Cmp

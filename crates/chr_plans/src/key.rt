@@ -145,7 +145,7 @@ pub fn read_key(
 }
 
 /// Whether these heads pass a test.
-fn passes(heads: &[Atom], test: &Test) -> bool
+pub(crate) fn passes(heads: &[Atom], test: &Test) -> bool
     ensures { result ≡ passes heads.now test.now }
 {
     let order = value_of(heads, test.left).cmp(&value_of(heads, test.right));
@@ -205,7 +205,7 @@ fn narrowed_by(heads: &[Atom], limits: &[Limit], column: usize, range: Range) ->
 }
 
 /// Whether the sign is one of an order.
-fn is_order(cmp: Cmp) -> bool {
+pub(crate) fn is_order(cmp: Cmp) -> bool {
     match cmp {
         Cmp::Less | Cmp::AtMost | Cmp::Greater | Cmp::AtLeast => true,
         Cmp::Equal | Cmp::NotEqual => false,

@@ -1,19 +1,20 @@
 //! Partners that are missing: a look-up whose key is known finds no row, so the look-ups before it are in vain.
-ghost use Rattle.std.specs.Prelude.{◌≡◌, ℕ, ◌<◌, ◌≤◌, ◌∷◌, length, map, slice_get, true, IsTrue, is_some};
+ghost use Rattle.std.specs.Prelude.{◌≡◌, ℕ, ◌+◌, ◌<◌, ◌≤◌, ◌∷◌, ◌++◌, length, map, slice_get, true, IsTrue, is_some};
 ghost use Rattle.std.specs.List.{list_all};
 ghost use Rattle.std.specs.Bool.{OnTrue};
-ghost use Rattle.chr_base.specs.declared.atom.Atom.{Atom as AtomValue};
-ghost use Rattle.chr_plans.specs.Keys.{source_value, Spans};
+ghost use Rattle.chr_plans.specs.Keys.{source_value};
 ghost use Rattle.chr_plans.specs.Planning.{is_in};
 ghost use Rattle.chr_plans.specs.Rows.{HasKey};
-ghost use Rattle.chr_plans.specs.working.Searching.{are_ready, is_ready, looked_in, IsIndexed, IsMissing};
+ghost use Rattle.chr_plans.specs.working.Searching.{are_ready, is_ready, looked_in, known_limits};
+ghost use Rattle.chr_plans.specs.working.Searching.{IsAllowed, IsIndexed, IsMissing};
 
-use crate::key::{Key, Source, Span, read_key};
+use crate::key::{Key, Limit, Source, Span, read_key, read_span};
 use crate::plan::Lookup;
 use crate::rows::Rows;
 use crate::search::newest_from;
 use arrayvec::ArrayVec;
 use chr_base::atom::Atom;
+use chr_base::limits::MAX_COMPARISONS;
 
 /// Whether one of these look-ups looks in the place.
 fn is_looked_in(place: usize, lookups: &[Lookup]) -> bool
@@ -42,9 +43,16 @@ fn are_ready(keys: &[Key], active: usize, found: &[Lookup]) -> bool
     keys.iter().all(|key| is_ready(key.source, active, found))
 }
 
-/// Whether the partner of the last of these look-ups is the first with which all values of a key are known; where there
-/// are no look-ups, whether the active atom alone gives them.
-fn become_ready(keys: &[Key], active: usize, found: &[Lookup]) -> bool
+/// Whether more of the limits are known from these look-ups than from those before the last.
+fn know_more(limits: &[Limit], active: usize, before: &[Lookup], found: &[Lookup]) -> bool {
+    limits.iter().any(|limit| {
+        is_ready(limit.source, active, found) && !is_ready(limit.source, active, before)
+    })
+}
+
+/// Whether the values of a key are known, and the partner of the last of these look-ups is the first with which they
+/// are, or with which a limit is; where there are no look-ups, whether the active atom alone gives the key's values.
+fn become_ready(keys: &[Key], limits: &[Limit], active: usize, found: &[Lookup]) -> bool
     ensures { OnTrue result (are_ready (active ∷ looked_in found.now) keys.now ≡ true) }
 {
     if !are_ready(keys, active, found) {
@@ -53,34 +61,60 @@ fn become_ready(keys: &[Key], active: usize, found: &[Lookup]) -> bool
     let [before @ .., _last] = found else {
         return true;
     };
-    !are_ready(keys, active, before)
+    !are_ready(keys, active, before) || know_more(limits, active, before, found)
 }
 
-/// A span with all atoms.
-fn whole_span() -> Span
-    ensures { (a : AtomValue) → Spans result a }
+/// Adds those of these limits whose values are known from the active atom and the partners of the look-ups.
+fn push_known(
+    limits: &[Limit],
+    active: usize,
+    found: &[Lookup],
+    known: &mut ArrayVec<Limit, MAX_COMPARISONS>,
+)
+    requires { length known.old.items + length limits.now ≤ MAX_COMPARISONS }
+    ensures { known.new.items ≡ known.old.items ++ known_limits (active ∷ looked_in found.now) limits.now }
 {
-    Span::default()
+    let [limit, limits @ ..] = limits else {
+        return;
+    };
+    if is_ready(limit.source, active, found) {
+        known.push(*limit);
+    }
+    push_known(limits, active, found, known);
 }
 
-/// Whether no row has the key of a look-up under these heads.
-fn finds_none<R: Rows>(rows: &mut R, lookup: &Lookup, heads: &[Atom]) -> bool
+/// Whether no row has the key of a look-up under these heads, and is allowed by its limits whose values are known from
+/// the active atom and the partners found.
+fn finds_none<R: Rows>(
+    rows: &mut R,
+    lookup: &Lookup,
+    active: usize,
+    found: &[Lookup],
+    heads: &[Atom],
+) -> bool
     requires { IsTrue (is_some (R.columns rows.old lookup.now.table lookup.now.index)) }
     ensures rows { R.rows rows.new ≡ R.rows rows.old }
     ensures columns { R.columns rows.new ≡ R.columns rows.old }
     ensures tables { R.tables rows.new ≡ R.tables rows.old }
     ensures none { OnTrue result ((other : ℕ) →
-        ¬ (HasKey (R.columns rows.old lookup.now.table lookup.now.index)
+        HasKey (R.columns rows.old lookup.now.table lookup.now.index)
         (map (λ k. source_value heads.now k.source) lookup.now.partner.key.items)
+        (R.rows rows.old lookup.now.table other) →
+        ¬ (IsAllowed heads.now (known_limits (active ∷ looked_in found.now) lookup.now.partner.limits.items)
         (R.rows rows.old lookup.now.table other))) }
 {
     let mut key = ArrayVec::new();
     read_key(heads, &lookup.partner.key, &mut key);
-    newest_from(rows, lookup, &key, &whole_span(), None).is_none()
+    let mut known = ArrayVec::new();
+    push_known(&lookup.partner.limits, active, found, &mut known);
+    let mut span = Span::default();
+    read_span(heads, lookup.partner.order, &known, &mut span);
+    newest_from(rows, lookup, &key, &span, None).is_none()
 }
 
-/// Whether a later look-up, whose key is known from the active atom and the partners of the first `done` look-ups,
-/// finds no row. Then no row helps the look-up that is next. A look-up is asked just once, as soon as its key is known.
+/// Whether a look-up after the first ones, whose key is known from the active atom and their partners, finds no row by
+/// that and by the limits that are known. Then no row helps the look-up that is next. A look-up is asked once its key
+/// is known, and again only when a further limit is.
 pub(crate) fn is_hopeless<R: Rows>(
     rows: &mut R,
     active: usize,
@@ -100,8 +134,9 @@ pub(crate) fn is_hopeless<R: Rows>(
     let found = &lookups[..done];
     for later in done + 1..lookups.len() {
         let lookup = &lookups[later];
-        if become_ready(&lookup.partner.key, active, found) {
-            if finds_none(rows, lookup, heads) {
+        let partner = &lookup.partner;
+        if become_ready(&partner.key, &partner.limits, active, found) {
+            if finds_none(rows, lookup, active, found, heads) {
                 return true;
             }
         }

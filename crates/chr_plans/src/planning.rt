@@ -1,14 +1,16 @@
 //! Plans are made: the partner of which most arguments are known is looked for next.
 ghost use Rattle.std.specs.Prelude.{◌≡◌, ◌<◌, ◌≤◌, ◌+◌, ◌++◌, ◌∷◌, [], length};
+ghost use Rattle.std.specs.Bool.{OnTrue, OnFalse};
 ghost use Rattle.chr_base.specs.Rules.{heads_of};
 ghost use Rattle.chr_base.specs.RuleTests.{is_variable};
 ghost use Rattle.chr_plans.specs.Plans.{IsPlan};
 ghost use Rattle.chr_plans.specs.Planning.{is_in, column_of, variable_source, direct_source, equal_to, equal_source};
 ghost use Rattle.chr_plans.specs.Planning.{term_source, keys_from, key_at, test_of, tests_from, tests_at, is_equal};
 ghost use Rattle.chr_plans.specs.Planning.{turned, own_column, limit_by, limit_of, limits_from, MayLimit, AreLongest};
-ghost use Rattle.chr_plans.specs.working.Choosing.{ArePlaces, IsChoice, longer};
+ghost use Rattle.chr_plans.specs.Planning.{fixed_test, never_holds, never_fires};
+ghost use Rattle.chr_plans.specs.working.Choosing.{ArePlaces, IsChoice, IsLonger};
 
-use crate::key::{Key, Limit, Source, Test, order_of};
+use crate::key::{Key, Limit, Source, Test, is_order, order_of, passes};
 use crate::plan::Partner;
 use arrayvec::ArrayVec;
 use chr_base::limits::{MAX_ARITY, MAX_COMPARISONS, MAX_HEADS};
@@ -188,13 +190,60 @@ fn push_tests(
     push_tests(rule, before, known, guard, tests);
 }
 
-/// The tests of the guard that the last known head allows.
+/// A comparison whose outcome hangs on no values, as a test of constants.
+fn fixed_test(comparison: &Comparison) -> Option<Test>
+    ensures { result ≡ fixed_test comparison.now }
+{
+    let (left, right) = match comparison.left {
+        Term::Constant(left) => match comparison.right {
+            Term::Constant(right) => (left, right),
+            Term::Variable(_) => return None,
+        },
+        Term::Variable(left) => match comparison.right {
+            Term::Variable(right) if left == right => (0, 0),
+            _ => return None,
+        },
+    };
+    Some(Test {
+        left: Source::Constant(left),
+        cmp: comparison.cmp,
+        right: Source::Constant(right),
+    })
+}
+
+/// Whether the comparison holds under no values.
+fn never_holds(comparison: &Comparison) -> bool
+    ensures { result ≡ never_holds comparison.now }
+{
+    match fixed_test(comparison) {
+        Some(test) => !passes(&[], &test),
+        None => false,
+    }
+}
+
+/// Whether a comparison of the guard holds under no values, so that the rule has no instance.
+fn never_fires(rule: &Rule) -> bool
+    ensures { result ≡ never_fires rule.now }
+{
+    rule.guard.iter().any(|comparison| never_holds(comparison))
+}
+
+/// The tests of the guard that the last known head allows. Where the rule has no instance it is one that nothing
+/// passes, so that no partner is looked for.
 fn tests_at(rule: &Rule, known: &[usize]) -> ArrayVec<Test, MAX_COMPARISONS>
     requires { ArePlaces rule.now known.now }
     ensures { result.items ≡ tests_at rule.now known.now }
 {
-    let before = &known[..known.len().saturating_sub(1)];
     let mut tests = ArrayVec::new();
+    if never_fires(rule) {
+        tests.push(Test {
+            left: Source::Constant(0),
+            cmp: Cmp::NotEqual,
+            right: Source::Constant(0),
+        });
+        return tests;
+    }
+    let before = &known[..known.len().saturating_sub(1)];
     push_tests(rule, before, known, &rule.guard, &mut tests);
     tests
 }
@@ -326,7 +375,8 @@ fn leaves_one(
             .all(|part| is_in_column(part.source, part.column))
 }
 
-/// The limits of the head at a place with this key; none, where the key alone finds few rows at rest.
+/// The limits of the head at a place with this key; none, where the key alone finds few rows at rest, or the rule never
+/// fires.
 fn limits_at(
     rule: &Rule,
     known: &[usize],
@@ -339,19 +389,42 @@ fn limits_at(
 {
     let mut limits = ArrayVec::new();
     push_limits(rule, known, place, &rule.guard, &mut limits);
-    if leaves_one(rule, known, rule.head_at(place), key, &limits) {
+    if never_fires(rule) || leaves_one(rule, known, rule.head_at(place), key, &limits) {
         return ArrayVec::new();
     }
     limits
 }
 
-/// The partner with the longer key, `best` where both are as long.
+/// The number of limits by an order.
+fn orders_in(limits: &[Limit]) -> usize {
+    limits.iter().filter(|limit| is_order(limit.cmp)).count()
+}
+
+/// Whether the limits by an order are more than those others, or are as many where all limits are more.
+fn limit_more(limits: &[Limit], others: &[Limit]) -> bool {
+    let orders = orders_in(limits);
+    let other_orders = orders_in(others);
+    other_orders < orders || other_orders == orders && others.len() < limits.len()
+}
+
+/// Whether a partner comes sooner than the best so far: its key is longer, or is as long where its limits are more.
+fn is_sooner(next: &Partner, best: &Partner) -> bool
+    ensures sooner { OnTrue result (length best.now.key.items ≤ length next.now.key.items) }
+    ensures later { OnFalse result (length next.now.key.items ≤ length best.now.key.items) }
+{
+    if next.key.len() == best.key.len() {
+        return limit_more(&next.limits, &best.limits);
+    }
+    best.key.len() < next.key.len()
+}
+
+/// The partner with the longer key; where both are as long that with more limits, and else `best`.
 fn longer(best: Option<Partner>, next: Partner) -> Partner
-    ensures { result ≡ longer best next }
+    ensures { IsLonger best next result }
 {
     match best {
         Some(partner) => {
-            if partner.key.len() < next.key.len() {
+            if is_sooner(&next, &partner) {
                 next
             } else {
                 partner

@@ -1,5 +1,5 @@
 -- How far the choice of a partner has come.
-use Rattle.std.specs.Prelude.{◌≡◌, ℕ, ◌<◌, List, [], ◌∷◌, length, Option, Some, None, true, ⊤, if◌then◌else◌, nat_lt}
+use Rattle.std.specs.Prelude.{◌≡◌, ℕ, ◌<◌, ◌≤◌, ◌⊎◌, List, [], ◌∷◌, length, Option, Some, None, true, ⊤}
 use Rattle.chr_base.specs.declared.rule.Rule.{Rule}
 use Rattle.chr_base.specs.Rules.{heads_of}
 use Rattle.chr_plans.specs.declared.plan.Partner.{Partner}
@@ -15,7 +15,9 @@ abbrev pub IsChoice : Rule → List ℕ → ℕ → Option Partner → Type 0
 IsChoice r known n None = (q : ℕ) → q < n → is_in q known ≡ true
 IsChoice r known n (Some l) = IsLongest r known n l
 
--- the one with the longer key, the first where both are as long
-abbrev pub longer : Option Partner → Partner → Partner
-longer None next = next
-longer (Some l) next = if nat_lt (length l.key.items) (length next.key.items) then next else l
+-- of the best so far and the next, where there are both, one whose key is not shorter
+abbrev pub IsLonger : Option Partner → Partner → Partner → Type 0
+IsLonger None next l = l ≡ next
+IsLonger (Some best) next l =
+    ((l ≡ next) × (length best.key.items ≤ length next.key.items))
+    ⊎ ((l ≡ best) × (length next.key.items ≤ length best.key.items))

@@ -1,15 +1,16 @@
 -- How far a search has come.
-use Rattle.std.specs.Prelude.{◌≡◌, ℕ, ◌<◌, ◌≤◌, List, ◌∷◌, length, get_or, map, take, Bool, true}
+use Rattle.std.specs.Prelude.{◌≡◌, ℕ, ◌<◌, ◌≤◌, List, [], ◌∷◌, length, get_or, map, take, Bool, true, if◌then◌else◌}
 use Rattle.std.specs.Prelude.{Option, Some, None, IsTrue, is_some}
 use Rattle.std.specs.List.{list_all}
 use Rattle.chr_base.specs.declared.atom.Atom.{Atom}
 use Rattle.chr_base.specs.declared.rule.Rule.{Rule}
 use Rattle.chr_plans.specs.declared.key.Key.{Key}
+use Rattle.chr_plans.specs.declared.key.Limit.{Limit}
 use Rattle.chr_plans.specs.declared.key.Source.{Source}
 use Rattle.chr_plans.specs.declared.key.Source.TheVariants.{Constant, Argument}
 use Rattle.chr_plans.specs.declared.plan.Lookup.{Lookup}
 use Rattle.chr_plans.specs.declared.rows.Seat.{Seat}
-use Rattle.chr_plans.specs.Keys.{source_value}
+use Rattle.chr_plans.specs.Keys.{source_value, allows}
 use Rattle.chr_plans.specs.Planning.{is_in}
 use Rattle.chr_plans.specs.Rows.{Tables, Columns, HasKey}
 use Rattle.chr_plans.specs.Seats.{head, seat, atom_in, IsSeated}
@@ -55,15 +56,27 @@ is_ready known (Argument q c) = is_in q known
 abbrev pub are_ready : List ℕ → List Key → Bool
 are_ready known key = list_all (λ k. is_ready known k.source) key
 
+-- the limits whose sources are known
+abbrev pub known_limits : List ℕ → List Limit → List Limit
+known_limits known [] = []
+known_limits known (l ∷ ls) =
+    if is_ready known l.source then l ∷ known_limits known ls else known_limits known ls
+
+-- the row lives, and under the heads the limits allow its atom
+abbrev pub IsAllowed : List Atom → List Limit → Option Atom → Type 0
+IsAllowed heads limits row = (a : Atom) × (row ≡ Some a) × (list_all (allows heads a) limits ≡ true)
+
 -- the look-up has an index
 abbrev pub IsIndexed : Columns → Option Lookup → Type 0
 IsIndexed columns None = ⊥
 IsIndexed columns (Some l) = IsTrue (is_some (columns l.table l.index))
 
--- Some look-up finds no row, and its key is known from the active atom and the partners of the first n look-ups.
+-- Some look-up, whose key is known from the active atom and the partners of the first n look-ups, finds no row by it
+-- and by those of its limits that are known from them.
 abbrev pub IsMissing : Tables → Columns → ℕ → List Lookup → ℕ → List Atom → Type 0
 IsMissing rows columns p lookups n heads =
     (j : ℕ) × (l : Lookup) × (j < length lookups) × (get_or lookups j l ≡ l)
     × (are_ready (p ∷ take n (looked_in lookups)) l.partner.key.items ≡ true)
-    × ((row : ℕ) → ¬ HasKey (columns l.table l.index)
-    (map (λ k. source_value heads k.source) l.partner.key.items) (rows l.table row))
+    × ((row : ℕ) → HasKey (columns l.table l.index)
+    (map (λ k. source_value heads k.source) l.partner.key.items) (rows l.table row)
+    → ¬ IsAllowed heads (known_limits (p ∷ take n (looked_in lookups)) l.partner.limits.items) (rows l.table row))

@@ -5,8 +5,13 @@ use Rattle.chr_plans.proofs.Hopeless.{none_found}
 use Rattle.chr_plans.proofs.missing.finds_none.Goals as goal
 
 pub returns-clause-none : goal.returns-clause-none
-returns-clause-none g c = OnTrue_from c.is_none.result _ (λ e other has.
-    (let key : c.deref.result.now ≡ map (λ k. source_value c.args.heads.now k.source)
-    c.args.lookup.now.partner.key.items = c.deref.ensures.0 ∙ c.read_key.ensures in
+returns-clause-none g c = OnTrue_from c.is_none.result _ (λ e other has allowed.
+    (let key : c.deref-2.result.now ≡ map (λ k. source_value c.args.heads.now k.source)
+    c.args.lookup.now.partner.key.items = c.deref-2.ensures.0 ∙ c.read_key.ensures in
     none_found _ c.newest_from.result c.is_none.result c.is_none.ensures e c.newest_from.ensures.none other tt
-    (rw key has) (has.0, has.1, c.whole_span.ensures has.0)))
+    (rw key has) (
+      allowed.0,
+      allowed.1,
+      c.read_span.ensures.all allowed.0
+          (rw (c.push_known.ensures, c.new-known.ensures, c.deref.ensures.0) allowed.2),
+    )))

@@ -16,5 +16,6 @@ returns-then-finds_none-clause-missing g c =
       c.loop-later-test.true,
       sym c.index-lookups-later.is,
       ready,
-      rw (c.loop-later.invariant.rows, c.loop-later.invariant.columns) at c.if-finds_none.ensures.none,
+      rw (c.loop-later.invariant.rows, c.loop-later.invariant.columns, looked_take c.args.lookups.now c.args.done) at
+          c.if-finds_none.ensures.none,
     )
