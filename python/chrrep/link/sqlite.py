@@ -255,6 +255,7 @@ class SqliteLink(Link):
             # a statement that is all of a transaction commits it too
             batch.is_unsure = is_one
             now = time.time()
+            # at each try: the log may have got its id in between
             asked = (self.log, self.log_id, self.origin, self.writer, batch.epoch, batch.room, self.room_limit, now)
             try:
                 engine.execute(_APPEND, (*asked, now + self.lease_seconds, batch.before, *first))
@@ -580,9 +581,11 @@ def _is_away(fault: sqlite3.Error) -> bool:
 
 def _rows_of(first: int, texts: Sequence[str]) -> list[tuple[int, int, str]]:
     """The rows that operations of numbers from the first on have: the number of the last, how many, and their texts."""
+    if len(texts) == 1:
+        return [(first, 1, texts[0])]
     text, count = "\n".join(texts), len(texts)
     # a link writes no text with an end of line, but others may have it do so
-    if count == 1 or len(text) <= _ROW_LENGTH and text.count("\n") == count - 1:
+    if len(text) <= _ROW_LENGTH and text.count("\n") == count - 1:
         return [(first + count - 1, count, text)]
     half = count // 2
     return _rows_of(first, texts[:half]) + _rows_of(first + half, texts[half:])
