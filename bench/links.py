@@ -101,8 +101,8 @@ class Rates:
         client, member = (1e9 * self.operations[name] / self.nanoseconds[name] for name in names)
         print(f"{way}: client {client:.0f} a second, member {member:.0f}, which is {member / client:.2f} of it")
         client, member = (self.processor[name] / self.operations[name] / 1000 for name in names)
-        print(f"{way}: client {client:.2f} millionths of a second of a processor, member {member:.2f}", end=", ")
-        print(f"of which the client has {client / member:.2f}")
+        each = f"client {client:.2f} millionths of a second of a processor, member {member:.2f}"
+        print(f"{way}: {each}, so {client / member:.2f} as fast by that")
 
 
 def compare(url: str, count: int, log: str) -> None:
