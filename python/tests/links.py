@@ -159,6 +159,13 @@ class Links(unittest.TestCase):
         texts = [entry.atoms for entry in entries]
         link.append(Batch(entries[0].id, texts, entries[0].writer, epoch, before, len(entries), names))
 
+    def wait_for(self, holds: Callable[[], bool]) -> None:
+        """Waits until it holds."""
+        end = time.monotonic() + SECONDS
+        while not holds():
+            self.assertLess(time.monotonic(), end)
+            time.sleep(0.02)
+
     def command(self, *options: str) -> Command:
         command = Command(self.engine, self.log, self.program, *options)
         self.stack.callback(command.kill)
@@ -427,13 +434,6 @@ class Members(Links):
             self.assertTrue(all(0.0 <= heard.seconds < SECONDS for heard in one.link.members()))
             other.link.close()
             self.assertEqual([heard.origin for heard in one.link.members()], [1])
-
-    def wait_for(self, holds: Callable[[], bool]) -> None:
-        """Waits until it holds."""
-        end = time.monotonic() + SECONDS
-        while not holds():
-            self.assertLess(time.monotonic(), end)
-            time.sleep(0.02)
 
     def test_a_thread_follows_and_calls_back(self) -> None:
         one, other = self.member(PATHS), self.member()

@@ -59,8 +59,8 @@ class Writings(unittest.TestCase):
         for _ in range(2000):
             operations: list[Any] = [[("mark", chance.choice(VALUES[:5]))] for _ in range(chance.randrange(1, 6))]
             for _ in range(chance.choice((0, 0, 1, 2))):
-                other = [("mark", chance.choice(VALUES))], [chance.choice(atoms)], [("mark", 1), ("coin",)], []
-                operations[chance.randrange(len(operations))] = chance.choice(other)
+                others: list[Any] = [[("mark", chance.choice(VALUES))], [chance.choice(atoms)], [("mark", 1)] * 2, []]
+                operations[chance.randrange(len(operations))] = chance.choice(others)
             each = [writing.texts([operation]) for operation in operations]
             alone = [text for texts in each if texts for text in texts]
             texts = writing.texts(operations)

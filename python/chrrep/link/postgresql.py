@@ -511,6 +511,8 @@ class PostgresLink(Link):
         if self._held is not None:
             with suppress(Exception):
                 self._ask(_LEAVE, origin=self._held, writer=self.writer)
+                # PostgreSQL may take a while to end the connection, which holds the lock
+                self._ask(_UNLOCK, key=self._held - _HALF)
         self._engine.close()
         self._bell.close()
 
