@@ -302,7 +302,7 @@ class Logs(Links):
         """In one step; links that were there before come to know it, and a log never has another."""
         early, other = self.link(), self.link()
         self.assertEqual((early.log_id, other.log_id), ("", ""))
-        with patch(f"{type(early).__module__}.new_log_id", side_effect=ZeroDivisionError):
+        with patch("chrrep.link.log.new_log_id", side_effect=ZeroDivisionError):
             with self.assertRaises(ZeroDivisionError):
                 early.begin(Program(PATHS.encode()))
         self.assertEqual((early.state().program, early.log_id), (None, ""))
