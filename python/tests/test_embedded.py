@@ -19,7 +19,8 @@ from tempfile import TemporaryDirectory
 from unittest.mock import patch
 
 import chrrep
-import links
+import everything
+import leases
 import promises
 from chrrep import Id
 from chrrep.link import (
@@ -50,7 +51,7 @@ REPOSITORY = Path(__file__).resolve().parents[2]
 LOGS = shutil.ignore_patterns(".chrrep", "log")
 
 
-class SqliteLinks(links.Everything, links.Leases):
+class SqliteLinks(everything.Everything, leases.Leases):
     kind = Embedded
 
 

@@ -8,7 +8,10 @@ from collections.abc import Callable
 from contextlib import closing
 from unittest.mock import patch
 
+import everything
+import leases
 import links
+import outages
 import promises
 import psycopg2
 from chrrep import Id
@@ -19,11 +22,11 @@ from engines import Postgres, Redis, VolatileRedis
 from programs import PLAIN
 
 
-class RedisLinks(links.Everything, links.Leases, links.Outages):
+class RedisLinks(everything.Everything, leases.Leases, outages.Outages):
     kind = Redis
 
 
-class PostgresLinks(links.Everything, links.Outages):
+class PostgresLinks(everything.Everything, outages.Outages):
     kind = Postgres
 
 
