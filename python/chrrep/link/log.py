@@ -12,14 +12,14 @@ import secrets
 import threading
 import time
 import weakref
-from abc import ABC, abstractmethod
+from abc import abstractmethod
 from collections.abc import Callable, Iterable, Iterator, Mapping, Sequence
 from contextlib import contextmanager, suppress
 from functools import partial, wraps
-from types import TracebackType
-from typing import TYPE_CHECKING, Any, NamedTuple, ParamSpec, Self, TypeAlias, TypeVar
+from typing import TYPE_CHECKING, Any, NamedTuple, ParamSpec, TypeAlias, TypeVar
 from urllib.parse import urlsplit
 
+from ..closing import Closing
 from ..refusals import Full, WrongProcess
 from ..texts import Atom, Id, atoms_text
 from .faults import LinkLost, LogLost, LogUnusable, NewerFormat, NoDriver, OriginShared
@@ -311,7 +311,7 @@ class Flag:
             pass
 
 
-class Link(ABC):
+class Link(Closing):
     """A node's way to the log.
 
     The link's origin is its own while it lives: another link that asks for it is refused. Left out, the engine allots
@@ -467,14 +467,6 @@ class Link(ABC):
 
     def __repr__(self) -> str:
         return f"<chrrep.link.{type(self).__name__} of origin {self.origin}>"
-
-    def __enter__(self) -> Self:
-        return self
-
-    def __exit__(
-        self, kind: type[BaseException] | None, error: BaseException | None, trace: TracebackType | None
-    ) -> None:
-        self.close()
 
     def _take_origin(self, origin: int | None) -> None:
         """Takes this origin, or the first that is free, and holds it until the link is closed."""

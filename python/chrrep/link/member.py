@@ -9,9 +9,9 @@ from collections.abc import Callable, Iterable, Iterator, Mapping, Sequence
 from contextlib import contextmanager, suppress
 from functools import partial
 from itertools import chain
-from types import TracebackType
-from typing import NamedTuple, Self, TypeVar
+from typing import NamedTuple, TypeVar
 
+from ..closing import Closing
 from ..columns import Columns, ColumnsWarning, Orders, OrderWarning, warn
 from ..names import NameClash, Names, named_text, number_of, numbered
 from ..node import UNASKED, Timeout
@@ -96,7 +96,7 @@ class _Journals(threading.local):
     open: Journal | None = None
 
 
-class Member:
+class Member(Closing):
     """A node, and its link to the log that it shares with other nodes of one program.
 
     `program` is what a `Node` takes; left out, it is the log's. The first member gives the log its program, judged as
@@ -376,14 +376,6 @@ class Member:
 
     def __repr__(self) -> str:
         return f"<chrrep.link.Member of origin {self.origin}: {self._replica.node!r}>"
-
-    def __enter__(self) -> Self:
-        return self
-
-    def __exit__(
-        self, kind: type[BaseException] | None, error: BaseException | None, trace: TracebackType | None
-    ) -> None:
-        self.close()
 
     def _rejoin_after(self, changed: ProgramChanged) -> None:
         """Goes on with the log's program, if another thread was not faster. What is raised says what became of a tell
