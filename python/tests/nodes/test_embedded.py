@@ -47,7 +47,7 @@ from programs import COINS, MARKED, PATHS, PLAIN, REGISTER
 
 
 NOBODY = 65_534
-REPOSITORY = Path(__file__).resolve().parents[2]
+REPOSITORY = Path(__file__).resolve().parents[3]
 LOGS = shutil.ignore_patterns(".chrrep", "log")
 
 
