@@ -12,6 +12,7 @@ import sqlite3
 import sys
 import threading
 import time
+from collections import Counter
 from collections.abc import Callable, Iterable
 from functools import partial
 
@@ -79,25 +80,29 @@ def told(number: int) -> tuple[str | int, ...]:
 
 
 class Rates:
-    """Steps that are timed, in turns with others, so that what else the machine does slows all of them alike."""
+    """Steps that are timed, in turns with others, so that what else the machine does slows all of them alike: by the
+    clock, and by the processor's time of this process, which has no engine of its own but SQLite."""
 
     def __init__(self) -> None:
-        self.seconds: dict[str, float] = {}
-        self.operations: dict[str, int] = {}
+        self.nanoseconds: Counter[str] = Counter()
+        self.processor: Counter[str] = Counter()
+        self.operations: Counter[str] = Counter()
 
     def take(self, name: str, operations: int, steps: Iterable[Callable[[], object]]) -> None:
-        begin = time.monotonic()
+        begin, processor = time.monotonic_ns(), time.process_time_ns()
         for step in steps:
             step()
-        self.seconds[name] = self.seconds.get(name, 0.0) + time.monotonic() - begin
-        self.operations[name] = self.operations.get(name, 0) + operations
-
-    def of(self, name: str) -> float:
-        return self.operations[name] / self.seconds[name]
+        self.nanoseconds[name] += time.monotonic_ns() - begin
+        self.processor[name] += time.process_time_ns() - processor
+        self.operations[name] += operations
 
     def say(self, way: str) -> None:
-        client, member = self.of(f"client, {way}"), self.of(f"member, {way}")
+        names = f"client, {way}", f"member, {way}"
+        client, member = (1e9 * self.operations[name] / self.nanoseconds[name] for name in names)
         print(f"{way}: client {client:.0f} a second, member {member:.0f}, which is {member / client:.2f} of it")
+        client, member = (self.processor[name] / self.operations[name] / 1000 for name in names)
+        each = f"client {client:.2f} millionths of a second of a processor, member {member:.2f}"
+        print(f"{way}: {each}, so {client / member:.2f} as fast by that")
 
 
 def compare(url: str, count: int, log: str) -> None:

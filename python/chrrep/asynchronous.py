@@ -12,12 +12,12 @@ whose `await` is cancelled goes on there to its end: what it was telling may be 
 
 import asyncio
 import os
-from collections.abc import AsyncIterator, Callable, Generator, Iterable
+from collections.abc import AsyncIterator, Callable, Coroutine, Generator
 from concurrent.futures import Future, ThreadPoolExecutor
 from contextlib import suppress
-from functools import partial
+from functools import partial, wraps
 from types import TracebackType
-from typing import ParamSpec, Self, TypeVar
+from typing import Any, Concatenate, ParamSpec, Self, TypeVar
 
 from .link.following import LOOK_SECONDS, Watch
 from .link.log import LOG_NAME, PATIENCE, Link
@@ -25,7 +25,7 @@ from .link.member import SNAPSHOT_AFTER, Member
 from .link.member import join as link_join
 from .node import UNASKED, Node, Timeout
 from .refusals import WrongProcess
-from .texts import Atom, Change, Id, Operation, ProgramText, Summary, Verdict
+from .texts import Change, ProgramText, Verdict
 
 __all__ = ["AsyncMember", "AsyncNode", "join"]
 
@@ -67,6 +67,18 @@ def _undo(undo: Callable[[T], object], made: "Future[T]") -> None:
         undo(made.result())
 
 
+def _awaited(call: Callable[Concatenate[Any, P], T]) -> Callable[Concatenate[Any, P], Coroutine[Any, Any, T]]:
+    """A call of a node or member, as its twin has it."""
+
+    @wraps(call)
+    async def called(twin: Any, /, *args: P.args, **kwargs: P.kwargs) -> T:
+        result: T = await twin._caller.call(partial(getattr(twin._of, call.__name__), *args, **kwargs))
+        return result
+
+    called.__doc__ = f"As `{call.__qualname__}`."
+    return called
+
+
 class AsyncNode:
     """A `Node`, whose process begins with `async with` or `start`, and ends with the `async with` or `close`."""
 
@@ -96,6 +108,8 @@ class AsyncNode:
             raise RuntimeError("the node has not begun: await its start, or enter it by async with")
         return self._made
 
+    _of = node
+
     @property
     def origin(self) -> int:
         """The node's own origin."""
@@ -111,41 +125,15 @@ class AsyncNode:
         """What was said of the program."""
         return self.node.verdict
 
-    async def tell(self, *atoms: Atom) -> Id:
-        """As `Node.tell`."""
-        return await self._caller.call(self.node.tell, *atoms)
-
-    async def tell_many(self, tells: Iterable[Iterable[Atom]]) -> list[Id]:
-        """As `Node.tell_many`."""
-        return await self._caller.call(self.node.tell_many, tells)
-
-    async def admit(self, *atoms: Atom) -> None:
-        """As `Node.admit`."""
-        await self._caller.call(self.node.admit, *atoms)
-
-    async def show(self, symbol: str | None = None, *pattern: int | None) -> tuple[Atom, ...]:
-        """As `Node.show`."""
-        return await self._caller.call(self.node.show, symbol, *pattern)
-
-    async def show_text(self) -> str:
-        """As `Node.show_text`."""
-        return await self._caller.call(self.node.show_text)
-
-    async def count(self, symbol: str, *pattern: int | None) -> int:
-        """As `Node.count`."""
-        return await self._caller.call(self.node.count, symbol, *pattern)
-
-    async def summary(self) -> Summary:
-        """As `Node.summary`."""
-        return await self._caller.call(self.node.summary)
-
-    async def lacks(self, summary: Summary) -> tuple[Operation, ...]:
-        """As `Node.lacks`."""
-        return await self._caller.call(self.node.lacks, summary)
-
-    async def merge(self, delta: Iterable[Operation]) -> int:
-        """As `Node.merge`."""
-        return await self._caller.call(self.node.merge, delta)
+    tell = _awaited(Node.tell)
+    tell_many = _awaited(Node.tell_many)
+    admit = _awaited(Node.admit)
+    show = _awaited(Node.show)
+    show_text = _awaited(Node.show_text)
+    count = _awaited(Node.count)
+    summary = _awaited(Node.summary)
+    lacks = _awaited(Node.lacks)
+    merge = _awaited(Node.merge)
 
     async def close(self) -> None:
         """As `Node.close`."""
@@ -170,7 +158,7 @@ class AsyncMember:
     """A `Member`, which `join` makes."""
 
     def __init__(self, member: Member, caller: Caller) -> None:
-        self.member = member
+        self.member = self._of = member
         self._caller = caller
         self._waits = Caller("member", "waits")
         self._is_closed = False
@@ -195,37 +183,20 @@ class AsyncMember:
         """As `Member.refused`."""
         return self.member.refused
 
-    async def tell(self, *atoms: Atom) -> Id:
-        """As `Member.tell`."""
-        return await self._caller.call(self.member.tell, *atoms)
-
-    async def tell_many(self, tells: Iterable[Iterable[Atom]]) -> list[Id]:
-        """As `Member.tell_many`."""
-        return await self._caller.call(self.member.tell_many, tells)
+    tell = _awaited(Member.tell)
+    tell_many = _awaited(Member.tell_many)
+    catch_up = _awaited(Member.catch_up)
+    show = _awaited(Member.show)
+    show_named = _awaited(Member.show_named)
+    show_text = _awaited(Member.show_text)
+    count = _awaited(Member.count)
+    snapshot = _awaited(Member.snapshot)
+    upgrade = _awaited(Member.upgrade)
+    rejoin = _awaited(Member.rejoin)
 
     async def follow(self, wait: float = 0.0) -> int:
         """As `Member.follow`."""
         return await self._waits.call(self.member.follow, wait)
-
-    async def catch_up(self) -> int:
-        """As `Member.catch_up`."""
-        return await self._caller.call(self.member.catch_up)
-
-    async def show(self, symbol: str | None = None, *pattern: str | int | None) -> tuple[Atom, ...]:
-        """As `Member.show`."""
-        return await self._caller.call(self.member.show, symbol, *pattern)
-
-    async def show_named(self, symbol: str, /, **values: str | int) -> tuple[dict[str, str | int], ...]:
-        """As `Member.show_named`."""
-        return await self._caller.call(partial(self.member.show_named, symbol, **values))
-
-    async def show_text(self) -> str:
-        """As `Member.show_text`."""
-        return await self._caller.call(self.member.show_text)
-
-    async def count(self, symbol: str, *pattern: str | int | None) -> int:
-        """As `Member.count`."""
-        return await self._caller.call(self.member.count, symbol, *pattern)
 
     async def changes(self, wait: float | None = None) -> AsyncIterator[Change]:
         """As `Member.changes`."""
@@ -236,18 +207,6 @@ class AsyncMember:
                 yield change
             elif wait is not None:
                 return
-
-    async def snapshot(self) -> bool:
-        """As `Member.snapshot`."""
-        return await self._caller.call(self.member.snapshot)
-
-    async def upgrade(self, program: ProgramText, *, wide: bool | None = None) -> None:
-        """As `Member.upgrade`."""
-        await self._caller.call(self.member.upgrade, program, wide=wide)
-
-    async def rejoin(self) -> bool:
-        """As `Member.rejoin`."""
-        return await self._caller.call(self.member.rejoin)
 
     async def close(self) -> None:
         """Ends the node, and closes the link. To close twice is no fault."""

@@ -11,22 +11,17 @@ import sys
 import warnings
 from collections.abc import Iterable, Iterator, Mapping, Sequence
 from functools import cached_property
-from typing import NamedTuple, TypeAlias, TypeVar
+from typing import TypeVar
 
 from .refusals import UnknownColumn, UnknownSymbol
+from .rules import Rule, Symbol, rules_of
 from .words import Symbols, symbol_words, symbols_of
 
 T = TypeVar("T")
 
-Symbol: TypeAlias = tuple[str, int]
-"""A name, and a number of arguments."""
-
 _NAMING = re.compile(r"[^%]*%+\s*chr_columns\b(.*)", re.DOTALL)
 _NAMED = re.compile(r"\s*([a-z]\w*)\s*\(([^()]*)\)\s*(,|\.?\s*\Z)", re.ASCII)
 _NAME = re.compile(r"[a-z]\w*", re.ASCII)
-_COMMENT = re.compile(r"%[^\n]*")
-_RULE = re.compile(r"\s*(?:(\w+)\s*@)?(.*?)<=>(.*)", re.ASCII | re.DOTALL)
-_ATOM = re.compile(r"\b([a-z]\w*)\s*(?:\(([^()]*)\))?", re.ASCII)
 _ORDER = re.compile("[<>]")
 _VARIABLE = re.compile(r"\b(?:[A-Z]|_\w)\w*", re.ASCII)
 _MOST_FAULTS = 20
@@ -60,11 +55,12 @@ class Columns:
     def by_order(self) -> dict[Symbol, dict[int, str]]:
         """Of a symbol's arguments, from 1, those that a rule compares by order, with that rule."""
         found: dict[Symbol, dict[int, str]] = {}
-        for rule in self._rules:
-            for name, arguments in rule.heads:
+        for number, rule in enumerate(self._rules, 1):
+            said, variables = f"rule {number}" + (f" ({rule.name})" if rule.name else ""), _compared_in(rule)
+            for name, arguments in (*rule.kept, *rule.taken):
                 for place, argument in enumerate(arguments, 1):
-                    if argument in rule.by_order:
-                        found.setdefault((name, len(arguments)), {}).setdefault(place, rule.said)
+                    if argument in variables:
+                        found.setdefault((name, len(arguments)), {}).setdefault(place, said)
         return found
 
     def headings(self, symbol: Symbol) -> tuple[str, ...]:
@@ -96,16 +92,14 @@ class Columns:
         return next(((name, arguments[0]) for name, arguments in self.symbols.items()), None)
 
     @cached_property
-    def _rules(self) -> list["_Rule"]:
-        clauses = _COMMENT.sub("", self._text).split(".")
-        found = [it for it in map(_RULE.fullmatch, clauses) if it]
-        return [_rule_of(number, *it.groups(default="")) for number, it in enumerate(found, 1)]
+    def _rules(self) -> list[Rule]:
+        return rules_of(self._text)
 
     @cached_property
     def _variables(self) -> dict[Symbol, tuple[str, ...]]:
         found: dict[Symbol, list[set[str]]] = {}
         for rule in self._rules:
-            for name, arguments in (*rule.heads, *rule.body):
+            for name, arguments in (*rule.kept, *rule.taken, *rule.body):
                 places = found.setdefault((name, len(arguments)), [set() for _ in arguments])
                 for variables, argument in zip(places, arguments):
                     if _VARIABLE.fullmatch(argument) and not argument.startswith("_"):
@@ -164,27 +158,10 @@ class Orders:
         )
 
 
-class _Rule(NamedTuple):
-    said: str
-    heads: list[tuple[str, list[str]]]
-    body: list[tuple[str, list[str]]]
-    by_order: frozenset[str]
-    """The variables that its guard compares by order."""
-
-
-def _rule_of(number: int, name: str, heads: str, rest: str) -> _Rule:
-    guard, bar, body = rest.partition("|")
-    compared = (comparison for comparison in guard.split(",") if bar and _ORDER.search(comparison))
-    said = f"rule {number} ({name})" if name else f"rule {number}"
-    variables = frozenset(variable for comparison in compared for variable in _VARIABLE.findall(comparison))
-    return _Rule(said, _atoms_of(heads), _atoms_of(body if bar else guard), variables)
-
-
-def _atoms_of(text: str) -> list[tuple[str, list[str]]]:
-    return [
-        (name, [argument.strip() for argument in arguments.split(",")] if arguments else [])
-        for name, arguments in _ATOM.findall(text)
-    ]
+def _compared_in(rule: Rule) -> frozenset[str]:
+    """The variables that the guard of a rule compares by order."""
+    compared = filter(_ORDER.search, rule.guard)
+    return frozenset(variable for comparison in compared for variable in _VARIABLE.findall(comparison))
 
 
 def _column_words(name: str, columns: list[str], known: list[tuple[str, ...]]) -> str:

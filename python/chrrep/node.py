@@ -12,9 +12,9 @@ from contextlib import contextmanager, suppress
 from enum import Enum
 from functools import cached_property, partial
 from pathlib import Path
-from types import TracebackType
-from typing import NoReturn, Self, TypeAlias
+from typing import NoReturn, TypeAlias
 
+from .closing import Closing
 from .columns import Columns
 from .process import Late, Process, end_of
 from .refusals import (
@@ -166,7 +166,7 @@ def _options(wide: bool) -> list[str]:
     return ["--wide"] if wide else []
 
 
-class Node:
+class Node(Closing):
     """A replica of one accepted program, which lives until it is closed.
 
     `program` is a program text, or a file of one, as a `Path` or open, of which what follows a line `---` is no part.
@@ -335,14 +335,6 @@ class Node:
         """Ends the process, and waits for its end. To close twice is no fault."""
         with self._lock:
             self._end(NodeDied("the node was closed"))
-
-    def __enter__(self) -> Self:
-        return self
-
-    def __exit__(
-        self, kind: type[BaseException] | None, error: BaseException | None, trace: TracebackType | None
-    ) -> None:
-        self.close()
 
     @contextmanager
     def _in_words(self, delta: Sequence[Written]) -> Iterator[None]:

@@ -1,6 +1,7 @@
 """What people are told who type lines: what may be typed, with the program's own symbols, and what was wrong."""
 
-from .columns import Columns, Symbol
+from .columns import Columns
+from .rules import Symbol
 from .typed import ANY, LineFault
 
 _MOST_SYMBOLS = 64

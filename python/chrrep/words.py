@@ -6,13 +6,11 @@ import re
 from collections.abc import Callable, Sequence
 from typing import NamedTuple
 
+from . import rules
 from .refusals import Shape, UnknownSymbol
 from .texts import OPERATION_LIMIT
 
 _LEAST, _GREATEST = -(2**63), 2**63 - 1
-_COMMENT = re.compile(rb"%[^\n]*")
-_DECLARATION = re.compile(rb":-\s*chr_constraint\b([^.]*)\.")
-_SYMBOL = re.compile(rb"([a-z]\w*)\s*/\s*(\d+)")
 # a text that is a program has a sign of a clause, or a full stop at its end
 _FILE_NAME = re.compile(r"[^\n%<>=@|():\\]*[\w-]\.\w{1,8}")
 _SURROGATE = re.compile("[\ud800-\udfff]")
@@ -53,9 +51,8 @@ def file_words(program: bytes) -> str | None:
 def symbols_of(program: bytes) -> Symbols:
     """The symbols that an accepted program declares."""
     symbols: Symbols = {}
-    for declaration in _DECLARATION.findall(_COMMENT.sub(b"", program)):
-        for name, arguments in _SYMBOL.findall(declaration):
-            symbols.setdefault(name.decode(), []).append(int(arguments))
+    for name, arguments in rules.symbols_of(program.decode(errors="replace")):
+        symbols.setdefault(name, []).append(arguments)
     return symbols
 
 

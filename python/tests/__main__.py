@@ -51,7 +51,7 @@ WHOLE = ["test_install"]
 
 def modules_of(words: list[str]) -> list[str]:
     """The modules that these words name: those over engines, those that are given, or all but those over engines."""
-    modules = sorted(it.stem for it in HERE.glob("test_*.py"))
+    modules = sorted(it.stem for it in HERE.glob("**/test_*.py"))
     if words == ["engines"]:
         return ENGINES
     if unknown := [it for it in words if it not in modules]:
@@ -95,7 +95,7 @@ def main() -> int:
     words.add_argument("--processes", type=int)
     words.add_argument("--brief", action="store_true")
     said = words.parse_args()
-    sys.path[:0] = [str(HERE.parent), str(HERE)]
+    sys.path[:0] = [str(HERE.parent), *sorted({str(it.parent) for it in HERE.glob("**/*.py")})]
     modules = modules_of(said.modules)
     tests = unittest.defaultTestLoader.loadTestsFromNames(modules)
     processes: int = said.processes or (ENGINE_PROCESSES if modules == ENGINES else 1)

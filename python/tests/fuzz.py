@@ -25,7 +25,7 @@ from pathlib import Path
 
 HERE = Path(__file__).resolve().parent
 sys.dont_write_bytecode = True
-sys.path[:0] = [str(HERE.parent), str(HERE)]
+sys.path[:0] = [str(HERE.parent), str(HERE / "models"), str(HERE / "rows")]
 
 from chrrep.node import program_path  # noqa: E402
 from random_inputs import random_input, random_text  # noqa: E402

@@ -12,14 +12,14 @@ import secrets
 import threading
 import time
 import weakref
-from abc import ABC, abstractmethod
+from abc import abstractmethod
 from collections.abc import Callable, Iterable, Iterator, Mapping, Sequence
 from contextlib import contextmanager, suppress
 from functools import partial, wraps
-from types import TracebackType
-from typing import TYPE_CHECKING, Any, NamedTuple, ParamSpec, Self, TypeAlias, TypeVar
+from typing import TYPE_CHECKING, Any, NamedTuple, ParamSpec, TypeAlias, TypeVar
 from urllib.parse import urlsplit
 
+from ..closing import Closing
 from ..refusals import Full, WrongProcess
 from ..texts import Atom, Id, atoms_text
 from .faults import LinkLost, LogLost, LogUnusable, NewerFormat, NoDriver, OriginShared
@@ -267,14 +267,12 @@ class Busy(Exception):
         super().__init__("another call has no answer yet")
 
 
-def in_turn(
-    lock: "threading._RLock", seconds: float, call: Callable[P, T], *values: P.args, **named: P.kwargs
-) -> T:
+def in_turn(lock: "threading._RLock", seconds: float, call: Callable[P, T], *values: P.args, **named: P.kwargs) -> T:
     """The call's result, made by one thread at a time; `Busy` where others take longer than so many seconds. Wherever
     an interrupt comes, as by Ctrl-C, the lock is free afterwards."""
     try:
-        # an interrupt may come once it was taken, and before anything tells so
-        if not lock.acquire(timeout=max(0.0, seconds)):
+        # an interrupt may come once it was taken, and before anything tells so; a lock that is free costs no timeout
+        if not lock.acquire(False) and not lock.acquire(timeout=max(0.0, seconds)):
             raise Busy
         return call(*values, **named)
     finally:
@@ -313,7 +311,7 @@ class Flag:
             pass
 
 
-class Link(ABC):
+class Link(Closing):
     """A node's way to the log.
 
     The link's origin is its own while it lives: another link that asks for it is refused. Left out, the engine allots
@@ -470,14 +468,6 @@ class Link(ABC):
     def __repr__(self) -> str:
         return f"<chrrep.link.{type(self).__name__} of origin {self.origin}>"
 
-    def __enter__(self) -> Self:
-        return self
-
-    def __exit__(
-        self, kind: type[BaseException] | None, error: BaseException | None, trace: TracebackType | None
-    ) -> None:
-        self.close()
-
     def _take_origin(self, origin: int | None) -> None:
         """Takes this origin, or the first that is free, and holds it until the link is closed."""
         self.mark()  # a log of a newer format is left as it is
@@ -552,13 +542,13 @@ class Link(ABC):
     def _patiently(self, call: Callable[[float], T], lost: tuple[type[Exception], ...]) -> T:
         """The call's result, tried again while the engine is away. It is told how many seconds are left."""
         self.check_process()
-        end = time.monotonic() + self.patience
-        pause = _FIRST_PAUSE
+        left, pause = self.patience, _FIRST_PAUSE
+        end = time.monotonic() + left
         while True:
             if self._is_closed:
                 raise LinkLost("the link was closed")
             try:
-                result = call(max(_FIRST_PAUSE, end - time.monotonic()))
+                result = call(left if left > _FIRST_PAUSE else _FIRST_PAUSE)
             except (*lost, Sealed) as error:
                 if time.monotonic() + pause > end or self._closing.is_set:
                     raise LinkLost(f"the engine doesn't answer: {one_line(error)}") from error
@@ -567,7 +557,7 @@ class Link(ABC):
                 self._is_away = False
                 return result
             self._closing.wait(pause)
-            pause = min(2 * pause, _LONGEST_PAUSE)
+            left, pause = end - time.monotonic(), min(2 * pause, _LONGEST_PAUSE)
 
 
 def _hold_on(reference: "weakref.ref[Link]", closing: Flag) -> None:

@@ -9,9 +9,9 @@ from collections.abc import Callable, Iterable, Iterator, Mapping, Sequence
 from contextlib import contextmanager, suppress
 from functools import partial
 from itertools import chain
-from types import TracebackType
-from typing import NamedTuple, Self, TypeVar
+from typing import NamedTuple, TypeVar
 
+from ..closing import Closing
 from ..columns import Columns, ColumnsWarning, Orders, OrderWarning, warn
 from ..names import NameClash, Names, named_text, number_of, numbered
 from ..node import UNASKED, Timeout
@@ -96,7 +96,7 @@ class _Journals(threading.local):
     open: Journal | None = None
 
 
-class Member:
+class Member(Closing):
     """A node, and its link to the log that it shares with other nodes of one program.
 
     `program` is what a `Node` takes; left out, it is the log's. The first member gives the log its program, judged as
@@ -193,7 +193,7 @@ class Member:
         `OriginShared`, `ProgramChanged`, `LinkLost`, `LogUnusable` and `NodeDied`. Each says by `told` and `unsure`
         whether the operation is in the log. Told `after` what was raised, the same operation is not told twice.
         """
-        return self.tell_many([atoms], after=after)[0]
+        return self._told([atoms], after)[0]
 
     def tell_many(self, tells: Iterable[Iterable[Atom]], *, after: BaseException | None = None) -> list[Id]:
         """Tells operations of 1 to 64 atoms each as `tell` does, many at once, and gives their ids.
@@ -202,16 +202,7 @@ class Member:
         What is raised has the ids of those that are `told`, the first ones, and of those that are `unsure`, which
         follow. `after` it the same operations are told on, and none of them twice.
         """
-        operations: Operations = [tuple(atoms) for atoms in tells]
-        self.link.check_process()
-        tell = self._begun(operations, after)
-        try:
-            with self._lock:
-                self._go_on(tell)
-                return list(tell.told)
-        except BaseException as fault:
-            tell.leave_by(fault)
-            raise
+        return self._told([tuple(atoms) for atoms in tells], after)
 
     def follow(self, wait: float = 0.0) -> int:
         """Reads on in the log, and says how many operations were new. Where there are none it waits for one, up to so
@@ -386,14 +377,6 @@ class Member:
     def __repr__(self) -> str:
         return f"<chrrep.link.Member of origin {self.origin}: {self._replica.node!r}>"
 
-    def __enter__(self) -> Self:
-        return self
-
-    def __exit__(
-        self, kind: type[BaseException] | None, error: BaseException | None, trace: TracebackType | None
-    ) -> None:
-        self.close()
-
     def _rejoin_after(self, changed: ProgramChanged) -> None:
         """Goes on with the log's program, if another thread was not faster. What is raised says what became of a tell
         that the change cut off."""
@@ -412,6 +395,18 @@ class Member:
             yield journal
         finally:
             self._journals.open = outer
+
+    def _told(self, operations: Operations, after: BaseException | None) -> list[Id]:
+        """Tells operations, or goes on with them after what was raised, and gives their ids."""
+        self.link.check_process()
+        tell = self._begun(operations, after)
+        try:
+            with self._lock:
+                self._go_on(tell)
+                return list(tell.told)
+        except BaseException as fault:
+            tell.leave_by(fault)
+            raise
 
     def _begun(self, operations: Operations, after: BaseException | None) -> Tell:
         """The tell of operations, or the one that goes on after what was raised."""
@@ -548,11 +543,14 @@ class Member:
 
     def _go_on(self, tell: Tell) -> None:
         """Tells what is left of the operations of a call."""
-        if tell.rest:
+        if not tell.rest:
+            return
+        if self._late:
             self._raise_late()
+        if not self._is_sure or self._unsettled or tell.unsure:
             self._make_sure(tell)
-        rest = tell.rest
-        if not rest:
+        # nothing may be left by now
+        if not (rest := tell.rest):
             return
         begin, operations = len(tell.told), self._admitted(rest)
         moves = 0
@@ -567,8 +565,6 @@ class Member:
 
     def _make_sure(self, tell: Tell) -> None:
         """Finds out what is in the log of what this member was appending, and reads it."""
-        if self._is_sure and not self._unsettled and not tell.unsure:
-            return
         if self._unsettled and self._unsettled is not tell:
             # where nobody knows any more it stays unsure
             with suppress(OriginShared):

@@ -22,6 +22,7 @@ from pathlib import Path
 from typing import Any, NamedTuple
 from urllib.parse import SplitResult, parse_qs, urlsplit
 
+from ..closing import Closing
 from ..columns import Orders
 from ..names import NameClash, named_atoms_of, named_text
 from ..prompt import example_of, fault_words
@@ -295,7 +296,7 @@ def _marks(change: Change) -> object:
     return {"came": [*map(_sent, change.came[:MARKS])], "went": [*map(_sent, change.went[:MARKS])]}
 
 
-class Page:
+class Page(Closing):
     """The page of a member at a port of loopback, 0 being any. It ends with a `with`, or by `close`."""
 
     def __init__(self, member: Member, port: int) -> None:
@@ -343,12 +344,6 @@ class Page:
         self.watcher.close()
         self._server.shutdown()
         self._server.server_close()
-
-    def __enter__(self) -> "Page":
-        return self
-
-    def __exit__(self, *_: object) -> None:
-        self.close()
 
 
 class _Server(ThreadingHTTPServer):

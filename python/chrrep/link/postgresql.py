@@ -22,45 +22,12 @@ from psycopg2 import errors, extensions, sql
 
 from ..names import NameClash, UnkeptName, check_name
 from ..refusals import ChrrepError
+from . import log
 from .faults import LogUnusable, OriginShared, ProgramChanged
-from .log import (
-    FIRST_EPOCH,
-    FORMAT,
-    READ_AT_ONCE,
-    SEAL_SECONDS,
-    Busy,
-    Count,
-    Entry,
-    Heard,
-    Lease,
-    Link,
-    Mark,
-    Named,
-    Position,
-    Program,
-    Reading,
-    Rest,
-    Sealed,
-    SetAside,
-    State,
-    entries_of,
-    has_more,
-    in_turn,
-    is_among,
-    known_format,
-    new_log_id,
-    of_damaged,
-    one_line,
-    position_of,
-    position_text,
-    program_of,
-    program_text,
-    whole,
-)
 from .telling import Batch
 
 _LOST = (psycopg2.OperationalError, psycopg2.InterfaceError, OSError)
-_AWAY = (*_LOST, Busy)
+_AWAY = (*_LOST, log.Busy)
 _UNDONE = (errors.LockNotAvailable, errors.QueryCanceled)
 """What a statement ends by that was not carried out, on a connection that goes on."""
 _CONNECTING: dict[str, Any] = {"connect_timeout": 5, "keepalives_idle": 5, "tcp_user_timeout": 10_000}
@@ -98,14 +65,14 @@ _TABLES = f"""
         ADD COLUMN IF NOT EXISTS writer text NOT NULL DEFAULT '',
         ADD COLUMN IF NOT EXISTS until float8 NOT NULL DEFAULT 0;
     ALTER TABLE {{names}} ADD COLUMN IF NOT EXISTS used bigint NOT NULL DEFAULT 0;
-    INSERT INTO {{state}} VALUES (true, {FORMAT - 1}, {FIRST_EPOCH}, NULL, 0, '[]', 'true', '', now())
+    INSERT INTO {{state}} VALUES (true, {log.FORMAT - 1}, {log.FIRST_EPOCH}, NULL, 0, '[]', 'true', '', now())
     ON CONFLICT DO NOTHING;
-    UPDATE {{state}} SET format = {FORMAT}, id = CASE WHEN program IS NULL THEN '' ELSE %(id)s END,
+    UPDATE {{state}} SET format = {log.FORMAT}, id = CASE WHEN program IS NULL THEN '' ELSE %(id)s END,
         place = coalesce((SELECT max(place) FROM {{names}}), 0),
         room = coalesce((
             SELECT sum(greatest(0, length(atoms) - length(replace(atoms, '[', '')) - 1)) FROM {{log}}), 0)
             + CASE store WHEN 'true' THEN 0 ELSE 1 + (length(store) - length(replace(store, ', ', ''))) / 2 END
-    WHERE format < {FORMAT};
+    WHERE format < {log.FORMAT};
     INSERT INTO {{log}} (origin, number, writer, atoms) SELECT {{mark}}, 0, '', id FROM {{state}}
     ON CONFLICT DO NOTHING"""
 _ID = "CASE WHEN EXISTS (SELECT FROM {log} WHERE origin = {mark} AND atoms = id) THEN id END"
@@ -152,7 +119,7 @@ _LEAVE = """
 _MEMBERS = "SELECT origin, position, extract(epoch FROM clock_timestamp() - at)::float8 FROM {members} ORDER BY origin"
 _IS_SEALED = f"""
     sealed_by <> %(writer)s AND sealed_until > clock_timestamp()
-    AND sealed_until <= clock_timestamp() + {SEAL_SECONDS} * interval '1 second'"""
+    AND sealed_until <= clock_timestamp() + {log.SEAL_SECONDS} * interval '1 second'"""
 _END = "coalesce((SELECT max(number) FROM {log} WHERE origin = %(origin)s), 0)"
 _APPEND = f"""
     WITH stand AS (
@@ -228,7 +195,7 @@ class _Connection:
             self._end = max(end, time.monotonic() + _LEAST_SECONDS)
             return self._used(call)
 
-        return in_turn(self._lock, seconds, used)
+        return log.in_turn(self._lock, seconds, used)
 
     def rows(self, query: sql.Composed, values: dict[str, object]) -> list[Row]:
         """The rows of a query, of which there may be none."""
@@ -275,7 +242,7 @@ class _Connection:
             if isinstance(error, _LOST):
                 raise
             raise psycopg2.OperationalError(str(error)) from error
-        except (Sealed, ChrrepError):
+        except (log.Sealed, ChrrepError):
             raise
         except BaseException:
             # interrupted in the middle of an exchange
@@ -304,7 +271,7 @@ class _Connection:
         self._made = None
 
 
-class PostgresLink(Link):
+class PostgresLink(log.Link):
     """A link over PostgreSQL, which has what it acknowledges on disk unless `fsync` or `synchronous_commit` is off."""
 
     def __init__(self, url: str, origin: int | None, log: str, patience: float) -> None:
@@ -322,29 +289,30 @@ class PostgresLink(Link):
             self._let_go()
             raise
 
-    @of_damaged
-    def state(self) -> State:
+    @log.of_damaged
+    def state(self) -> log.State:
         columns = "format, epoch, program, generation, position, store"
         id, format, epoch, program, generation, position, store = self._state_row(columns)
-        known_format(format)
+        log.known_format(format)
         self._check_id(id)
-        return State(epoch, program_of(program) if program else None, generation, position_of(position), store)
+        kept = log.program_of(program) if program else None
+        return log.State(epoch, kept, generation, log.position_of(position), store)
 
-    @of_damaged
-    def mark(self) -> Mark:
+    @log.of_damaged
+    def mark(self) -> log.Mark:
         id, format, epoch, generation, position = self._state_row("format, epoch, generation, position")
-        known_format(format)
+        log.known_format(format)
         self._check_id(id)
-        return Mark(epoch, generation, position_of(position))
+        return log.Mark(epoch, generation, log.position_of(position))
 
-    @of_damaged
-    def count(self) -> Count:
+    @log.of_damaged
+    def count(self) -> log.Count:
         id, *counts = self._state_row("appends, generation, room")
         self._check_id(id)
-        return Count(*map(whole, counts))
+        return log.Count(*map(log.whole, counts))
 
-    def begin(self, program: Program) -> None:
-        self._ask(_BEGIN, program=program_text(program), id=self.log_id, new=new_log_id())
+    def begin(self, program: log.Program) -> None:
+        self._ask(_BEGIN, program=log.program_text(program), id=self.log_id, new=log.new_log_id())
 
     def append(self, batch: Batch) -> None:
         values = {
@@ -378,8 +346,8 @@ class PostgresLink(Link):
             raise OriginShared(self.origin) from fault
         batch.is_unsure = False
 
-    @of_damaged
-    def settle(self, entry: Entry) -> bool:
+    @log.of_damaged
+    def settle(self, entry: log.Entry) -> bool:
         # the connection that was lost has ended, or else this one is not had
         def look() -> bool:
             values = {"origin": entry.id.origin, "number": entry.id.number}
@@ -387,39 +355,39 @@ class PostgresLink(Link):
             id, end = rows[0] if rows else (None, 0)
             self._check_id(id)
             found = self._rows(_FIND, **values)
-            return is_among(entry, end, (found[0][0], found[0][1]) if found else None)
+            return log.is_among(entry, end, (found[0][0], found[0][1]) if found else None)
 
         return self._use(look)
 
-    @of_damaged
-    def read(self, after: Position, wait: float = 0.0) -> Reading:
+    @log.of_damaged
+    def read(self, after: log.Position, wait: float = 0.0) -> log.Reading:
         end = time.monotonic() + wait
         self._renew()
         while True:
             if wait > 0:
                 # notices that have come tell of what is read next
                 self._patiently(lambda left: self._bell.use(self._bell.hush, left), _AWAY)
-            entries = list(entries_of(self._ask(_READ, **_arrays(after), limit=READ_AT_ONCE)))
+            entries = list(log.entries_of(self._ask(_READ, **_arrays(after), limit=log.READ_AT_ONCE)))
             left = end - time.monotonic()
             if entries or left <= 0 or self._closing.is_set:
                 # asked for after the entries: those that were missed were removed by a generation that is told
                 id, generation = self._state_row("generation")
                 self._check_id(id)
-                return Reading(entries, generation)
+                return log.Reading(entries, generation)
             self._patiently(lambda most: self._bell.use(lambda: self._bell.listen(left), most), _AWAY)
 
-    @of_damaged
+    @log.of_damaged
     def newest(self) -> dict[int, int]:
         return {origin: number for origin, number in self._ask(_NEWEST)}
 
-    def keep(self, state: State, is_last: bool = False, rest: Rest = Rest()) -> bool:
+    def keep(self, state: log.State, is_last: bool = False, rest: log.Rest = log.Rest()) -> bool:
         assert state.program
         values = {
             "id": self.log_id,
             "epoch": state.epoch,
-            "program": program_text(state.program),
+            "program": log.program_text(state.program),
             "generation": state.generation,
-            "position": position_text(state.position),
+            "position": log.position_text(state.position),
             "store": state.store,
             "room": rest.room,
             "counted": rest.since.room,
@@ -430,7 +398,7 @@ class PostgresLink(Link):
             with self._transaction():
                 # nothing is appended from here on
                 self._rows("SELECT FROM {state} FOR UPDATE")
-                if is_last and has_more({origin: number for origin, number in self._rows(_NEWEST)}, state.position):
+                if is_last and log.has_more({origin: number for origin, number in self._rows(_NEWEST)}, state.position):
                     return False
                 if not self._rows(_KEEP, **values):
                     return False
@@ -440,10 +408,10 @@ class PostgresLink(Link):
 
         return self._use(put)
 
-    @of_damaged
-    def names(self, place: int = 0) -> list[Named]:
+    @log.of_damaged
+    def names(self, place: int = 0) -> list[log.Named]:
         query = "SELECT place, number, name FROM {names} WHERE place > %(place)s ORDER BY place"
-        return [Named(*row) for row in self._ask(query, place=place)]
+        return [log.Named(*row) for row in self._ask(query, place=place)]
 
     def check_name(self, name: str) -> None:
         if "\0" in name:
@@ -452,36 +420,37 @@ class PostgresLink(Link):
     def seal(self, seconds: float) -> None:
         self._ask(_SEAL, writer=self.writer, seconds=seconds)
 
-    def set_aside(self, refused: SetAside) -> None:
+    def set_aside(self, refused: log.SetAside) -> None:
         id, atoms, writer = refused.entry
         values = {"origin": id.origin, "number": id.number, "atoms": atoms, "writer": writer, "reason": refused.reason}
         self._ask(_SET_ASIDE, **values)
 
-    @of_damaged
-    def refused(self) -> list[SetAside]:
+    @log.of_damaged
+    def refused(self) -> list[log.SetAside]:
         rows = self._ask("SELECT origin, number, atoms, writer, reason FROM {refused} ORDER BY origin, number")
-        return [SetAside(entry, row[-1]) for entry, row in zip(entries_of(row[:-1] for row in rows), rows)]
+        return [log.SetAside(entry, row[-1]) for entry, row in zip(log.entries_of(row[:-1] for row in rows), rows)]
 
-    @of_damaged
-    def members(self) -> list[Heard]:
-        return [Heard(origin, position_of(position), seconds) for origin, position, seconds in self._ask(_MEMBERS)]
+    @log.of_damaged
+    def members(self) -> list[log.Heard]:
+        rows = self._ask(_MEMBERS)
+        return [log.Heard(origin, log.position_of(position), seconds) for origin, position, seconds in rows]
 
     def _open(self) -> None:
         """Sees to it that the log's tables are there, as this version has them."""
         is_there, = self._ask("SELECT to_regclass(%(table)s) IS NOT NULL", table=_quoted(f"{self.log}:state"))[0]
         formats = self._ask("SELECT format FROM {state}") if is_there else []
-        if not formats or formats[0][0] < FORMAT:
-            self._ask(_TABLES, id=new_log_id())
-        known_format(self._ask("SELECT format FROM {state}")[0][0])
+        if not formats or formats[0][0] < log.FORMAT:
+            self._ask(_TABLES, id=log.new_log_id())
+        log.known_format(self._ask("SELECT format FROM {state}")[0][0])
         # the lock is had when what a dead node was appending is in the log, or never will be
         self._ask("BEGIN; LOCK TABLE {log} IN SHARE MODE; COMMIT")
         self.log_id = ""
         self._check_id(self._state_row("generation")[0])
 
-    @of_damaged
-    def _leases(self) -> dict[int, Lease]:
+    @log.of_damaged
+    def _leases(self) -> dict[int, log.Lease]:
         return {
-            origin: Lease.of(until, now, is_allotted) for origin, until, is_allotted, now in self._ask(_LEASES)
+            origin: log.Lease.of(until, now, is_allotted) for origin, until, is_allotted, now in self._ask(_LEASES)
         }
 
     def _hold(self, origin: int, is_allotted: bool, until: float | None) -> bool:
@@ -511,6 +480,8 @@ class PostgresLink(Link):
         if self._held is not None:
             with suppress(Exception):
                 self._ask(_LEAVE, origin=self._held, writer=self.writer)
+                # PostgreSQL may take a while to end the connection, which holds the lock
+                self._ask(_UNLOCK, key=self._held - _HALF)
         self._engine.close()
         self._bell.close()
 
@@ -558,12 +529,12 @@ class PostgresLink(Link):
         if epoch != batch.epoch:
             raise ProgramChanged
         if is_sealed:
-            raise Sealed
+            raise log.Sealed
         self._check_end(end, batch)
         if room + batch.room > self.room_limit:
             raise self._full(batch)
         # what kept it is over by now
-        raise Sealed
+        raise log.Sealed
 
     def _state_row(self, columns: str) -> Row:
         """The log's id, and what its state has in these columns."""
@@ -587,7 +558,7 @@ class PostgresLink(Link):
         except errors.UniqueViolation:
             raise
         except psycopg2.Error as fault:
-            raise LogUnusable(f"the log in PostgreSQL can't be used: {one_line(fault)}") from fault
+            raise LogUnusable(f"the log in PostgreSQL can't be used: {log.one_line(fault)}") from fault
 
     @contextmanager
     def _transaction(self) -> Iterator["_Transaction"]:
@@ -622,7 +593,7 @@ def _quoted(table: str) -> str:
     return '"' + table.replace('"', '""') + '"'
 
 
-def _arrays(position: Position) -> dict[str, list[int]]:
+def _arrays(position: log.Position) -> dict[str, list[int]]:
     return {"origins": list(position.keys()), "numbers": list(position.values())}
 
 

@@ -19,37 +19,8 @@ from redis.retry import Retry
 from ..names import NameClash
 from ..refusals import ChrrepError
 from ..texts import Id
+from . import log
 from .faults import LogUnusable, OriginShared, ProgramChanged
-from .log import (
-    FIRST_EPOCH,
-    FORMAT,
-    PARTING_SECONDS,
-    READ_AT_ONCE,
-    SEAL_SECONDS,
-    Count,
-    Entry,
-    Heard,
-    Lease,
-    Link,
-    Mark,
-    Named,
-    Position,
-    Program,
-    Reading,
-    Rest,
-    Sealed,
-    SetAside,
-    State,
-    is_among,
-    known_format,
-    new_log_id,
-    of_damaged,
-    one_line,
-    position_of,
-    position_text,
-    program_of,
-    program_text,
-)
 from .telling import Batch
 
 _LOST = (redis.exceptions.ConnectionError, redis.exceptions.TimeoutError, OSError)
@@ -63,7 +34,7 @@ _ALL = 2**64 - 1
 T = TypeVar("T")
 
 _NEW: dict[str, str | int] = {
-    "epoch": FIRST_EPOCH,
+    "epoch": log.FIRST_EPOCH,
     "generation": 0,
     "position": "[]",
     "store": "true",
@@ -93,7 +64,7 @@ _LEASE = """
 # KEYS: state, origins, named, places, leases, allotted. ARGV: name of the log, id, fields of a new state
 _OPEN = _FIELDS + f"""
     local format = tonumber(redis.call('HGET', KEYS[1], 'format') or '1')
-    if format >= {FORMAT} then return end
+    if format >= {log.FORMAT} then return end
     for at = 3, #ARGV, 2 do redis.call('HSETNX', KEYS[1], ARGV[at], ARGV[at + 1]) end
     local function count(text, sign) return select(2, string.gsub(text, sign, '')) end
     local store = redis.call('HGET', KEYS[1], 'store')
@@ -111,7 +82,7 @@ _OPEN = _FIELDS + f"""
     local named = redis.call('LRANGE', KEYS[3], 0, -1)
     for place, number in ipairs(named) do redis.call('ZADD', KEYS[4], place, number) end
     local id = redis.call('HGET', KEYS[1], 'program') and ARGV[2] or ''
-    redis.call('HSET', KEYS[1], 'format', {FORMAT}, 'id', id, 'room', room, 'place', #named)
+    redis.call('HSET', KEYS[1], 'format', {log.FORMAT}, 'id', id, 'room', room, 'place', #named)
     redis.call('DEL', KEYS[3], KEYS[6])"""
 # KEYS: state, leases, stream, names, places, used. ARGV: id, origin, writer, fence, milliseconds of a lease and of a
 # seal, epoch, number before, room, its limit, number of names, number and text of each name, number and atoms of each
@@ -234,10 +205,10 @@ _LET_GO = _LEASE + """
     end"""
 
 _SCRIPTS = (_OPEN, _APPEND, _SETTLE, _KEEP, _BEGIN, _SEAL, _HOLD, _BEAT, _LET_GO)
-_SEAL_MILLISECONDS = int(SEAL_SECONDS * 1000)
+_SEAL_MILLISECONDS = int(log.SEAL_SECONDS * 1000)
 
 
-class RedisLink(Link):
+class RedisLink(log.Link):
     """A link over Redis. What it acknowledges outlives the engine where that keeps its log on disk: `appendonly yes`,
     and against a loss of power `appendfsync always`."""
 
@@ -258,34 +229,34 @@ class RedisLink(Link):
             self._let_go()
             raise
 
-    @of_damaged
-    def state(self) -> State:
+    @log.of_damaged
+    def state(self) -> log.State:
         id, format, epoch, program, generation, position, store = self._fields(
             "id", "format", "epoch", "program", "generation", "position", "store"
         )
-        known_format(int(format or 0))
+        log.known_format(int(format or 0))
         self._check_id(id)
-        kept = program_of(program) if program else None
-        return State(_int(epoch), kept, _int(generation), position_of(_text(position)), _text(store))
+        kept = log.program_of(program) if program else None
+        return log.State(_int(epoch), kept, _int(generation), log.position_of(_text(position)), _text(store))
 
-    @of_damaged
-    def mark(self) -> Mark:
+    @log.of_damaged
+    def mark(self) -> log.Mark:
         id, format, epoch, generation, position = self._fields("id", "format", "epoch", "generation", "position")
-        known_format(int(format or 0))
+        log.known_format(int(format or 0))
         self._check_id(id)
-        return Mark(_int(epoch), _int(generation), position_of(_text(position)))
+        return log.Mark(_int(epoch), _int(generation), log.position_of(_text(position)))
 
-    @of_damaged
-    def count(self) -> Count:
+    @log.of_damaged
+    def count(self) -> log.Count:
         id, *counts = self._fields("id", "appends", "generation", "room")
         self._check_id(id)
-        return Count(*map(_int, counts))
+        return log.Count(*map(_int, counts))
 
-    def begin(self, program: Program) -> None:
-        words = [program_text(program), new_log_id()]
+    def begin(self, program: log.Program) -> None:
+        words = [log.program_text(program), log.new_log_id()]
         self._said(lambda: self._run(_BEGIN, [self._key("state")], [self.log_id, *words]))
 
-    @of_damaged
+    @log.of_damaged
     def append(self, batch: Batch) -> None:
         keys = self._keys("state", "leases", self.origin, "names", "places", "used")
         fixed = [self.origin, self.writer, self._fence, self._lease_milliseconds, _SEAL_MILLISECONDS]
@@ -299,7 +270,7 @@ class RedisLink(Link):
             said: list[str] = self._run(_APPEND, keys, [self.log_id, *fixed, *needed, *names, *words])
             batch.is_unsure = before
             if said[0] == "sealed":
-                raise Sealed
+                raise log.Sealed
             return said
 
         said, *more = self._said(add)
@@ -307,40 +278,40 @@ class RedisLink(Link):
             self._raise_why(batch, said, more)
         batch.is_unsure = False
 
-    @of_damaged
-    def settle(self, entry: Entry) -> bool:
+    @log.of_damaged
+    def settle(self, entry: log.Entry) -> bool:
         keys = self._keys("state", "leases", entry.id.origin)
         words = [entry.id.origin, self.writer, entry.id.number]
         _, fence, last, atoms, writer = self._said(lambda: self._run(_SETTLE, keys, [self.log_id, *words]))
         if entry.id.origin == self.origin:
             self._fence = int(fence)
         found = None if atoms is None or writer is None else (atoms, writer)
-        return is_among(entry, _number_of(last), found)
+        return log.is_among(entry, _number_of(last), found)
 
-    @of_damaged
-    def read(self, after: Position, wait: float = 0.0) -> Reading:
+    @log.of_damaged
+    def read(self, after: log.Position, wait: float = 0.0) -> log.Reading:
         self._renew()
 
-        def read() -> tuple[list[Entry], list[str | None]]:
+        def read() -> tuple[list[log.Entry], list[str | None]]:
             entries = self._read(after, min(wait, self._answer_seconds / 2))
             # asked for after the entries: those that were missed were removed by a generation that is told
             return entries, self._engine.hmget(self._key("state"), "id", "generation")
 
         entries, (id, generation) = self._ask(read)
         self._check_id(id)
-        return Reading(entries, _int(generation))
+        return log.Reading(entries, _int(generation))
 
-    @of_damaged
+    @log.of_damaged
     def newest(self) -> dict[int, int]:
         return self._ask(self._newest)
 
-    def keep(self, state: State, is_last: bool = False, rest: Rest = Rest()) -> bool:
+    def keep(self, state: log.State, is_last: bool = False, rest: log.Rest = log.Rest()) -> bool:
         assert state.program
         fields: dict[str, Any] = {
             "epoch": state.epoch,
-            "program": program_text(state.program),
+            "program": log.program_text(state.program),
             "generation": state.generation,
-            "position": position_text(state.position),
+            "position": log.position_text(state.position),
             "store": state.store,
         }
         words = [word for field in fields.items() for word in field]
@@ -351,40 +322,43 @@ class RedisLink(Link):
         said: str = self._said(lambda: self._run(_KEEP, keys, [self.log, self.log_id, *values]))[0]
         return said == "done"
 
-    @of_damaged
-    def names(self, place: int = 0) -> list[Named]:
-        def ask() -> list[Named]:
+    @log.of_damaged
+    def names(self, place: int = 0) -> list[log.Named]:
+        def ask() -> list[log.Named]:
             found = self._engine.zrangebyscore(self._key("places"), f"({place}", "+inf", withscores=True)
             names = self._engine.hmget(self._key("names"), [number for number, _ in found]) if found else []
             # one that was removed in between is used by nothing
-            return [Named(int(at), int(number), name) for (number, at), name in zip(found, names) if name is not None]
+            named = zip(found, names)
+            return [log.Named(int(at), int(number), name) for (number, at), name in named if name is not None]
 
         return self._ask(ask)
 
     def seal(self, seconds: float) -> None:
         self._ask(lambda: self._run(_SEAL, [self._key("state")], [self.writer, int(seconds * 1000)]))
 
-    def set_aside(self, refused: SetAside) -> None:
+    def set_aside(self, refused: log.SetAside) -> None:
         id, atoms, writer = refused.entry
         value = json.dumps([atoms, writer, refused.reason])
         self._ask(lambda: self._engine.hsetnx(self._key("refused"), f"{id.origin}:{id.number}", value))
 
-    @of_damaged
-    def refused(self) -> list[SetAside]:
+    @log.of_damaged
+    def refused(self) -> list[log.SetAside]:
         kept = self._ask(lambda: self._engine.hgetall(self._key("refused")))
         found = []
         for key, value in kept.items():
             origin, _, number = key.partition(":")
             atoms, writer, reason = json.loads(value)
-            found.append(SetAside(Entry(Id(int(origin), int(number)), atoms, writer), reason))
+            found.append(log.SetAside(log.Entry(Id(int(origin), int(number)), atoms, writer), reason))
         return sorted(found)
 
-    @of_damaged
-    def members(self) -> list[Heard]:
-        def ask() -> list[Heard]:
+    @log.of_damaged
+    def members(self) -> list[log.Heard]:
+        def ask() -> list[log.Heard]:
             told, now = self._engine.hgetall(self._key("members")), self._engine.time()[0]
             parts = ((origin, *value.partition(" ")) for origin, value in told.items())
-            return sorted(Heard(int(at), position_of(kept), max(0.0, now - int(then))) for at, then, _, kept in parts)
+            return sorted(
+                log.Heard(int(at), log.position_of(kept), max(0.0, now - int(then))) for at, then, _, kept in parts
+            )
 
         return self._ask(ask)
 
@@ -406,12 +380,12 @@ class RedisLink(Link):
     def _open(self) -> None:
         """Makes the log's state, or what it lacks where it is of the format before."""
         keys = self._keys("state", "origins", "named", "places", "leases", "allotted")
-        words = [self.log, new_log_id(), *(word for pair in _NEW.items() for word in pair)]
+        words = [self.log, log.new_log_id(), *(word for pair in _NEW.items() for word in pair)]
         self._ask(lambda: self._run(_OPEN, keys, words))
         self.log_id = self._fields("id")[0] or ""
 
-    @of_damaged
-    def _leases(self) -> dict[int, Lease]:
+    @log.of_damaged
+    def _leases(self) -> dict[int, log.Lease]:
         def ask() -> tuple[dict[str, str], tuple[int, int]]:
             return self._engine.hgetall(self._key("leases")), self._engine.time()
 
@@ -420,7 +394,7 @@ class RedisLink(Link):
         for origin, value in kept.items():
             _, until, is_allotted, _ = value.split(" ")
             now = seconds + microseconds / 1_000_000
-            leases[int(origin)] = Lease.of(int(until) / 1000, now, is_allotted == "1")
+            leases[int(origin)] = log.Lease.of(int(until) / 1000, now, is_allotted == "1")
         return leases
 
     def _hold(self, origin: int, is_allotted: bool, until: float | None) -> bool:
@@ -437,7 +411,7 @@ class RedisLink(Link):
         ])  # fmt: skip
 
     def _let_go(self) -> None:
-        with suppress(Exception), self._client(PARTING_SECONDS) as engine:
+        with suppress(Exception), self._client(log.PARTING_SECONDS) as engine:
             self._scripts[_LET_GO](self._keys("leases", "members"), [self.writer, self.origin], engine)
         self._engine.close()
         self._engine.connection_pool.disconnect()
@@ -460,7 +434,7 @@ class RedisLink(Link):
         try:
             return self._patiently(lambda left: call(), _LOST)
         except redis.exceptions.RedisError as fault:
-            raise LogUnusable(f"the log {self.log!r} in Redis can't be used: {one_line(fault)}") from fault
+            raise LogUnusable(f"the log {self.log!r} in Redis can't be used: {log.one_line(fault)}") from fault
         except ChrrepError:
             raise
         except BaseException:
@@ -499,13 +473,14 @@ class RedisLink(Link):
         if self.origin not in self._known:
             self._ask(lambda: self._engine.xadd(self._key("origins"), {"origin": self.origin}))
 
-    def _read(self, after: Position, wait: float) -> list[Entry]:
+    def _read(self, after: log.Position, wait: float) -> list[log.Entry]:
         origins = self._key("origins")
         known = sorted(self._known)
         places = {self._key(origin): f"{after.get(origin, 0)}-{_ALL}" for origin in known}
         streams = {origins: self._known_until, **places}
-        found = self._engine.xread(streams, count=READ_AT_ONCE, block=max(1, int(wait * 1000)) if wait > 0 else None)
-        entries: list[Entry] = []
+        block = max(1, int(wait * 1000)) if wait > 0 else None
+        found = self._engine.xread(streams, count=log.READ_AT_ONCE, block=block)
+        entries: list[log.Entry] = []
         for key, items in found:
             if key == origins:
                 self._known_until = items[-1][0]
@@ -514,7 +489,7 @@ class RedisLink(Link):
             origin = int(key.removeprefix(f"{self.log}:"))
             for place, fields in items:
                 id = Id(origin, _number_of(place))
-                entries.append(Entry(id, fields.get("atoms", ""), fields.get("writer", "")))
+                entries.append(log.Entry(id, fields.get("atoms", ""), fields.get("writer", "")))
         if self._known > set(known):
             # those of new origins may be there already
             entries += self._read({**after, **dict.fromkeys(known, _ALL)}, 0.0)

@@ -7,9 +7,10 @@ whatever is at rest of operations has no more atoms than these count for.
 
 import re
 from collections import Counter
-from collections.abc import Iterable, Mapping, Sequence
-from typing import NamedTuple, TypeAlias
+from collections.abc import Iterable, Iterator, Mapping, Sequence
+from typing import NamedTuple
 
+from ..rules import Pattern, Rule, Symbol, patterns_of, rules_of, weights_of
 from ..texts import TOLD_LIMIT
 
 ROOM_FOR_OTHERS = 100_000
@@ -18,22 +19,19 @@ ROOM_FOR_OTHERS = 100_000
 ROOM = TOLD_LIMIT - ROOM_FOR_OTHERS
 """What the snapshot of a log and the operations beyond it count for, at most."""
 
-Symbol: TypeAlias = tuple[str, int]
-"""A name, and a number of arguments."""
-
-# an accepted text has neither strings nor signs of two meanings, so without layout a clause has one form
-_LAYOUT = re.compile(r"%[^\n]*|\s")
-_ATOM = re.compile(r"([a-z]\w*)(?:\(([^()]*)\))?", re.ASCII)
-_WEIGHT = re.compile(r":-chr_weight([a-z]\w*)/(\d+)=(-?\d+)(?:,(-?\d+))?", re.ASCII)
 _WRITTEN = re.compile(r'\["([a-z]\w*)"([^\[\]]*)\]', re.ASCII)
 _DEFAULT_WEIGHT = (1, 0)
 
 
-class _Rule(NamedTuple):
+class _Exchange(NamedTuple):
     """What a rule takes, and what it leaves in its place."""
 
     taken: "Counter[Symbol]"
     left: "Counter[Symbol]"
+
+    @classmethod
+    def by(cls, rule: Rule) -> "_Exchange":
+        return cls(Counter(_symbols_of(rule.taken)), Counter(_symbols_of(rule.body)))
 
     @property
     def growth(self) -> int:
@@ -60,33 +58,23 @@ class Counting:
         if store == "true":
             return 0
         count = store.count(", ") + 1
-        return count + self._more(_symbols_in(store)) if self._shares else count
+        return count + self._more(_symbols_of(patterns_of(store))) if self._shares else count
 
     def _more(self, symbols: Iterable[Symbol]) -> int:
         return sum(self._shares.get(symbol, 1) - 1 for symbol in symbols)
 
 
-def _symbols_in(text: str) -> Iterable[Symbol]:
-    """The symbols of atoms that stand side by side."""
-    for name, arguments in _ATOM.findall(text):
-        yield name, arguments.count(",") + 1 if arguments else 0
-
-
-def _rules_of(program: str) -> list[_Rule]:
-    """The rules of an accepted text."""
-    return [_rule_of(clause) for clause in _clauses_of(program) if "<=>" in clause]
-
-
-def _clauses_of(program: str) -> list[str]:
-    return _LAYOUT.sub("", program).split(".")
+def _symbols_of(patterns: Iterable[Pattern]) -> Iterator[Symbol]:
+    for name, arguments in patterns:
+        yield name, len(arguments)
 
 
 def _shares_of(program: str) -> dict[Symbol, int]:
     """How many atoms one of a symbol counts for, where that is more than 1."""
-    rules = _rules_of(program)
+    rules = [_Exchange.by(rule) for rule in rules_of(program)]
     if all(rule.growth <= 0 for rule in rules):
         return {}
-    weights = _weights_of(_pairs_of(program), rules)
+    weights = _single_weights(weights_of(program), rules)
     most = max(rule.growth for rule in rules)
     symbols = {symbol for rule in rules for symbol in (*rule.taken, *rule.left)}
     shares = {symbol: 1 + most * weights.get(symbol, _DEFAULT_WEIGHT[0]) for symbol in symbols}
@@ -95,22 +83,7 @@ def _shares_of(program: str) -> dict[Symbol, int]:
     return {symbol: share for symbol, share in shares.items() if share > 1}
 
 
-def _rule_of(clause: str) -> _Rule:
-    """The rule of a clause `NAME@KEPT\\TAKEN<=>GUARD|LEFT`, which may lack the name, what is kept, and the guard."""
-    heads, _, body = clause.partition("<=>")
-    taken = heads.rpartition("@")[2].rpartition("\\")[2]
-    left = Counter(_symbols_in(body.rpartition("|")[2]))
-    del left["true", 0]
-    return _Rule(Counter(_symbols_in(taken)), left)
-
-
-def _pairs_of(program: str) -> dict[Symbol, tuple[int, int]]:
-    """The weights that an accepted text declares; one number is the first of two."""
-    found = [match.groups() for match in map(_WEIGHT.match, _clauses_of(program)) if match]
-    return {(name, int(arity)): (int(first), int(second or 0)) for name, arity, first, second in found}
-
-
-def _weights_of(declared: Mapping[Symbol, tuple[int, int]], rules: list[_Rule]) -> dict[Symbol, int]:
+def _single_weights(declared: Mapping[Symbol, tuple[int, int]], rules: list[_Exchange]) -> dict[Symbol, int]:
     """Weights of one number that each rule lowers: of two the first counts for more than the second can grow."""
     pairs = {symbol: _DEFAULT_WEIGHT for rule in rules for symbol in (*rule.taken, *rule.left)} | dict(declared)
     more = max(_sum(rule.left, pairs, 1) - _sum(rule.taken, pairs, 1) for rule in rules)
@@ -121,7 +94,7 @@ def _sum(atoms: "Counter[Symbol]", pairs: Mapping[Symbol, tuple[int, int]], plac
     return sum(count * pairs[symbol][place] for symbol, count in atoms.items())
 
 
-def _least_share(symbol: Symbol, shares: Mapping[Symbol, int], rules: Iterable[_Rule]) -> int:
+def _least_share(symbol: Symbol, shares: Mapping[Symbol, int], rules: Iterable[_Exchange]) -> int:
     """The least share of a symbol by which no rule makes a store count for more, where the others keep theirs."""
     least = 1
     for rule in rules:

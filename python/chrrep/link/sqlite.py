@@ -15,40 +15,8 @@ from typing import Any, TypeAlias, TypeVar
 
 from ..names import check_name
 from ..texts import Id
+from . import log
 from .faults import LogUnusable, OriginShared, ProgramChanged
-from .log import (
-    FIRST_EPOCH,
-    READ_AT_ONCE,
-    SEAL_SECONDS,
-    Busy,
-    Count,
-    Entry,
-    Heard,
-    Lease,
-    Link,
-    Mark,
-    Named,
-    Position,
-    Program,
-    Reading,
-    Rest,
-    Sealed,
-    SetAside,
-    State,
-    entries_of,
-    has_more,
-    in_turn,
-    is_among,
-    known_format,
-    new_log_id,
-    of_damaged,
-    one_line,
-    position_of,
-    position_text,
-    program_of,
-    program_text,
-    whole,
-)
 from .telling import Batch
 
 PREFIX = "sqlite:///"
@@ -135,7 +103,7 @@ _APPENDING = f"""
     CREATE TEMP TRIGGER append INSTEAD OF INSERT ON appending BEGIN
         UPDATE logs SET room = room + new.room, appends = appends + 1
         WHERE log = new.log AND id = new.id AND epoch = new.epoch AND room + new.room <= new.most
-        AND (sealed_by = new.writer OR sealed_until NOT BETWEEN new.now AND new.now + {SEAL_SECONDS})
+        AND (sealed_by = new.writer OR sealed_until NOT BETWEEN new.now AND new.now + {log.SEAL_SECONDS})
         AND (SELECT writer FROM origins WHERE log = new.log AND origin = new.origin) = new.writer
         AND coalesce((SELECT max(number) FROM entries WHERE log = new.log AND origin = new.origin), 0) = new.before
         AND new.before <= new.number - new.count;
@@ -191,10 +159,10 @@ class _Away(Exception):
     """The file is locked by others for now."""
 
 
-_AWAY = (_Away, Busy)
+_AWAY = (_Away, log.Busy)
 
 
-class SqliteLink(Link):
+class SqliteLink(log.Link):
     """A link over a file of SQLite."""
 
     format = FORMAT
@@ -216,29 +184,29 @@ class SqliteLink(Link):
             self._let_go()
             raise
 
-    @of_damaged
-    def state(self) -> State:
+    @log.of_damaged
+    def state(self) -> log.State:
         id, format, epoch, program, generation, position, store = self._row(_STATE)
-        known_format(format, FORMAT)
+        log.known_format(format, FORMAT)
         self._check_id(id)
-        kept = program_of(program) if program else None
-        return State(whole(epoch), kept, whole(generation), position_of(position), str(store))
+        kept = log.program_of(program) if program else None
+        return log.State(log.whole(epoch), kept, log.whole(generation), log.position_of(position), str(store))
 
-    @of_damaged
-    def mark(self) -> Mark:
+    @log.of_damaged
+    def mark(self) -> log.Mark:
         id, format, epoch, _, generation, position, _ = self._row(_STATE)
-        known_format(format, FORMAT)
+        log.known_format(format, FORMAT)
         self._check_id(id)
-        return Mark(whole(epoch), whole(generation), position_of(position))
+        return log.Mark(log.whole(epoch), log.whole(generation), log.position_of(position))
 
-    @of_damaged
-    def count(self) -> Count:
+    @log.of_damaged
+    def count(self) -> log.Count:
         id, *counts = self._row("SELECT id, appends, generation, room FROM logs WHERE log = :log")
         self._check_id(id)
-        return Count(*map(whole, counts))
+        return log.Count(*map(log.whole, counts))
 
-    def begin(self, program: Program) -> None:
-        values = {"log": self.log, "program": program_text(program), "id": new_log_id()}
+    def begin(self, program: log.Program) -> None:
+        values = {"log": self.log, "program": log.program_text(program), "id": log.new_log_id()}
 
         def give(engine: sqlite3.Connection) -> None:
             self._check_row(engine)
@@ -255,6 +223,7 @@ class SqliteLink(Link):
             # a statement that is all of a transaction commits it too
             batch.is_unsure = is_one
             now = time.time()
+            # at each try: the log may have got its id in between
             asked = (self.log, self.log_id, self.origin, self.writer, batch.epoch, batch.room, self.room_limit, now)
             try:
                 engine.execute(_APPEND, (*asked, now + self.lease_seconds, batch.before, *first))
@@ -274,16 +243,16 @@ class SqliteLink(Link):
         (self._use if is_one else self._write)(add)
         batch.is_unsure = False
 
-    @of_damaged
-    def settle(self, entry: Entry) -> bool:
+    @log.of_damaged
+    def settle(self, entry: log.Entry) -> bool:
         def look(engine: sqlite3.Connection) -> bool:
             end = self._rows(engine, _END, origin=entry.id.origin)[0][0]
-            return is_among(entry, end, self._found(engine, entry.id))
+            return log.is_among(entry, end, self._found(engine, entry.id))
 
         return self._use(look)
 
-    @of_damaged
-    def read(self, after: Position, wait: float = 0.0) -> Reading:
+    @log.of_damaged
+    def read(self, after: log.Position, wait: float = 0.0) -> log.Reading:
         end = time.monotonic() + wait
         self._renew()
         while True:
@@ -294,23 +263,23 @@ class SqliteLink(Link):
                 # asked for after the entries: those that were missed were removed by a generation that is told
                 id, generation = self._row("SELECT id, generation FROM logs WHERE log = :log")
                 self._check_id(id)
-                return Reading(entries, whole(generation))
+                return log.Reading(entries, log.whole(generation))
             while self._version() == version and time.monotonic() < end and not self._closing.is_set:
                 time.sleep(_PAUSE)
 
-    @of_damaged
+    @log.of_damaged
     def newest(self) -> dict[int, int]:
-        return {whole(origin): whole(number) for origin, number in self._ask(_NEWEST)}
+        return {log.whole(origin): log.whole(number) for origin, number in self._ask(_NEWEST)}
 
-    @of_damaged
-    def keep(self, state: State, is_last: bool = False, rest: Rest = Rest()) -> bool:
+    @log.of_damaged
+    def keep(self, state: log.State, is_last: bool = False, rest: log.Rest = log.Rest()) -> bool:
         assert state.program
         values: dict[str, object] = {
             "log": self.log,
             "epoch": state.epoch,
-            "program": program_text(state.program),
+            "program": log.program_text(state.program),
             "generation": state.generation,
-            "position": position_text(state.position),
+            "position": log.position_text(state.position),
             "store": state.store,
             "room": rest.room,
             "counted": rest.since.room,
@@ -320,7 +289,7 @@ class SqliteLink(Link):
         def put(engine: sqlite3.Connection) -> bool:
             self._check_row(engine)
             newest = {origin: number for origin, number in self._rows(engine, _NEWEST)}
-            if is_last and has_more(newest, state.position):
+            if is_last and log.has_more(newest, state.position):
                 return False
             if not engine.execute(_KEEP, values).rowcount:
                 return False
@@ -334,36 +303,39 @@ class SqliteLink(Link):
 
         return self._write(put)
 
-    @of_damaged
-    def names(self, place: int = 0) -> list[Named]:
+    @log.of_damaged
+    def names(self, place: int = 0) -> list[log.Named]:
         query = "SELECT place, number, name FROM names WHERE log = :log AND place > :place ORDER BY place"
-        return [Named(whole(at), whole(number), str(name)) for at, number, name in self._ask(query, place=place)]
+        rows = self._ask(query, place=place)
+        return [log.Named(log.whole(at), log.whole(number), str(name)) for at, number, name in rows]
 
     def seal(self, seconds: float) -> None:
         query = "UPDATE logs SET sealed_by = :writer, sealed_until = :end WHERE log = :log"
         self._ask(query, writer=self.writer, end=time.time() + seconds)
 
-    def set_aside(self, refused: SetAside) -> None:
+    def set_aside(self, refused: log.SetAside) -> None:
         row = (self.log, *refused.entry.id, refused.entry.atoms, refused.entry.writer, refused.reason)
         self._write(lambda engine: engine.execute("INSERT OR IGNORE INTO refused VALUES (?, ?, ?, ?, ?, ?)", row))
 
-    @of_damaged
-    def refused(self) -> list[SetAside]:
+    @log.of_damaged
+    def refused(self) -> list[log.SetAside]:
         columns = "origin, number, atoms, writer, reason"
         rows = self._ask(f"SELECT {columns} FROM refused WHERE log = :log ORDER BY origin, number")
-        return [SetAside(entry, row[-1]) for entry, row in zip(entries_of(row[:-1] for row in rows), rows)]
+        return [log.SetAside(entry, row[-1]) for entry, row in zip(log.entries_of(row[:-1] for row in rows), rows)]
 
-    @of_damaged
-    def members(self) -> list[Heard]:
+    @log.of_damaged
+    def members(self) -> list[log.Heard]:
         rows = self._ask("SELECT origin, position, at FROM members WHERE log = :log ORDER BY origin")
         now = time.time()
-        return [Heard(whole(origin), position_of(position), max(0.0, now - at)) for origin, position, at in rows]
+        return [
+            log.Heard(log.whole(origin), log.position_of(position), max(0.0, now - at)) for origin, position, at in rows
+        ]
 
-    @of_damaged
-    def _leases(self) -> dict[int, Lease]:
+    @log.of_damaged
+    def _leases(self) -> dict[int, log.Lease]:
         rows = self._ask("SELECT origin, until, allotted FROM origins WHERE log = :log")
         now = time.time()
-        return {whole(origin): Lease.of(float(until), now, bool(allotted)) for origin, until, allotted in rows}
+        return {log.whole(origin): log.Lease.of(float(until), now, bool(allotted)) for origin, until, allotted in rows}
 
     def _hold(self, origin: int, is_allotted: bool, until: float | None) -> bool:
         values: dict[str, object] = {"origin": origin, "allotted": is_allotted, "writer": self.writer, "log": self.log}
@@ -427,11 +399,11 @@ class SqliteLink(Link):
         changes = [_SECOND] * bool(is_first) + [_TABLES] + [_THIRD] * bool(is_second)
         for change in ";".join(changes).split(";"):
             engine.execute(change)
-        values = {"log": self.log, "format": FORMAT, "epoch": FIRST_EPOCH}
+        values = {"log": self.log, "format": FORMAT, "epoch": log.FIRST_EPOCH}
         for query in (_NEW, _NEW_STATE):
             engine.execute(query, values)
 
-    @of_damaged
+    @log.of_damaged
     def _raise_why(self, engine: sqlite3.Connection, batch: Batch) -> None:
         """Raises what keeps the batch from the log, unless it is there already."""
         rows = self._rows(engine, _STAND, origin=self.origin)
@@ -445,13 +417,13 @@ class SqliteLink(Link):
         if epoch != batch.epoch:
             raise ProgramChanged
         # a seal that ends further ahead than one is long was made by a clock that was wrong
-        if sealed_by != self.writer and 0 < sealed_until - time.time() <= SEAL_SECONDS:
-            raise Sealed
+        if sealed_by != self.writer and 0 < sealed_until - time.time() <= log.SEAL_SECONDS:
+            raise log.Sealed
         self._check_end(end, batch)
         if room + batch.room > self.room_limit:
             raise self._full(batch)
         # what kept it is over by now
-        raise Sealed
+        raise log.Sealed
 
     def _found(self, engine: sqlite3.Connection, id: Id) -> tuple[str, str] | None:
         """Atoms and writer of the operation that is the last of its row."""
@@ -466,7 +438,7 @@ class SqliteLink(Link):
                 left = _lines_of(atoms, count)[end - 1 - number:]
                 self._rows(engine, _CUT, origin=origin, number=number, atoms="\n".join(left), count=len(left))
 
-    @of_damaged
+    @log.of_damaged
     def _keep_names(self, engine: sqlite3.Connection, names: Mapping[int, str]) -> None:
         """Has the log keep these names, as used by now. Raises `NameClash`."""
         if not names:
@@ -479,9 +451,9 @@ class SqliteLink(Link):
             place = max(place, at)
         self._rows(engine, "UPDATE logs SET place = :place WHERE log = :log", place=place)
 
-    def _entries(self, after: Position) -> list[Entry]:
-        def read(engine: sqlite3.Connection) -> list[Entry]:
-            entries: list[Entry] = []
+    def _entries(self, after: log.Position) -> list[log.Entry]:
+        def read(engine: sqlite3.Connection) -> list[log.Entry]:
+            entries: list[log.Entry] = []
             for origin, number in self._rows(engine, _NEWEST):
                 if number > (held := after.get(origin, 0)):
                     entries += self._of_origin(engine, origin, held)
@@ -489,16 +461,16 @@ class SqliteLink(Link):
 
         return self._use(read)
 
-    def _of_origin(self, engine: sqlite3.Connection, origin: int, held: int) -> list[Entry]:
+    def _of_origin(self, engine: sqlite3.Connection, origin: int, held: int) -> list[log.Entry]:
         """The first entries of an origin beyond this number."""
-        found: list[Entry] = []
+        found: list[log.Entry] = []
         after, is_more = held, True
-        while is_more and len(found) < READ_AT_ONCE:
+        while is_more and len(found) < log.READ_AT_ONCE:
             rows = self._rows(engine, _READ, origin=origin, number=after, limit=_ROWS_AT_ONCE)
-            found += [entry for entry in entries_of(_operations_of(rows)) if entry.id.number > held]
+            found += [entry for entry in log.entries_of(_operations_of(rows)) if entry.id.number > held]
             is_more = len(rows) == _ROWS_AT_ONCE
             after = found[-1].id.number if found else after
-        return found[:READ_AT_ONCE]
+        return found[:log.READ_AT_ONCE]
 
     def _check_row(self, engine: sqlite3.Connection) -> None:
         """Raises `LogLost` where the file has the log no more, or another one."""
@@ -541,7 +513,7 @@ class SqliteLink(Link):
         """The result of a call over a connection, which makes one at a time."""
         self._check_file()
         try:
-            return in_turn(lock, left, call, engine)
+            return log.in_turn(lock, left, call, engine)
         except sqlite3.Error as fault:
             raise self._fault_of(fault) from fault
 
@@ -565,7 +537,7 @@ class SqliteLink(Link):
     def _fault_of(self, fault: sqlite3.Error) -> Exception:
         if _is_away(fault) or self._closing.is_set:
             return _Away(str(fault))
-        return LogUnusable(f"the log in {self.path} can't be used: {one_line(fault)}")
+        return LogUnusable(f"the log in {self.path} can't be used: {log.one_line(fault)}")
 
 
 def _version_of(engine: sqlite3.Connection) -> int:
@@ -580,9 +552,11 @@ def _is_away(fault: sqlite3.Error) -> bool:
 
 def _rows_of(first: int, texts: Sequence[str]) -> list[tuple[int, int, str]]:
     """The rows that operations of numbers from the first on have: the number of the last, how many, and their texts."""
+    if len(texts) == 1:
+        return [(first, 1, texts[0])]
     text, count = "\n".join(texts), len(texts)
     # a link writes no text with an end of line, but others may have it do so
-    if count == 1 or len(text) <= _ROW_LENGTH and text.count("\n") == count - 1:
+    if len(text) <= _ROW_LENGTH and text.count("\n") == count - 1:
         return [(first + count - 1, count, text)]
     half = count // 2
     return _rows_of(first, texts[:half]) + _rows_of(first + half, texts[half:])
@@ -599,7 +573,7 @@ def _lines_of(atoms: str, count: int) -> list[str]:
 def _operations_of(rows: Iterable[Row]) -> Iterator[Row]:
     """A row for each operation of rows that have origin, number, atoms, writer and count."""
     for origin, number, atoms, writer, count in rows:
-        for at, text in enumerate(_lines_of(atoms, count), whole(number) - count + 1):
+        for at, text in enumerate(_lines_of(atoms, count), log.whole(number) - count + 1):
             yield origin, at, text, writer
 
 

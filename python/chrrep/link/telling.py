@@ -80,6 +80,8 @@ class Outcome(NamedTuple):
 class Tell:
     """The operations of one call, and how far they are told."""
 
+    __slots__ = ("operations", "told", "unsure")
+
     def __init__(self, operations: Operations) -> None:
         self.operations = operations
         self.told: list[Id] = []

@@ -1,5 +1,6 @@
 """Operations as a node takes them, written without asking it."""
 
+from array import array
 from collections.abc import Iterable, Sequence
 from itertools import chain, islice
 from operator import itemgetter
@@ -10,6 +11,8 @@ from ..texts import OPERATION_LIMIT, Atom
 _LEAST, _GREATEST = -(2**63), 2**63 - 1
 _LONGEST = 100_000
 """Bytes of an operation's atoms, far below what a line may have."""
+_DIGITS = 20
+"""Digits and sign of a number of 64 bits, at most."""
 _SEQUENCES = frozenset((tuple, list))
 _NUMBERS = frozenset((int,))
 _name_of = itemgetter(0)
@@ -36,7 +39,8 @@ class Writing:
         if len(operations) == 1 and len(operations[0]) == 1:
             text = self._text(operations[0][0])
             return None if text is None else [text]
-        return self._many(operations)
+        texts = self._alike(operations)
+        return self._many(operations) if texts is None else texts
 
     def _text(self, atom: Any) -> str | None:
         """An operation of this one atom."""
@@ -52,6 +56,27 @@ class Writing:
                 return None
         text = f"[{form}]" % values
         return text if len(text) <= _LONGEST else None
+
+    def _alike(self, operations: Sequence[Sequence[Any]]) -> list[str] | None:
+        """Operations of one atom each, all of one symbol, by the columns of their atoms; None where they are others."""
+        try:
+            atoms, = zip(*operations, strict=True)
+            # they may be anything, as users give them
+            if not _SEQUENCES.issuperset(map(type, atoms)):
+                return None
+            names, *columns = zip(*atoms, strict=True)
+            name, = set(names)
+            form = self._forms[name, len(columns) + 1]
+            values = tuple(chain.from_iterable(zip(*columns)))
+            # it takes numbers of 64 bits alone
+            array("q", values)
+        except (LookupError, TypeError, ValueError, OverflowError):
+            return None
+        if not _NUMBERS.issuperset(map(type, values)) or len(form) + _DIGITS * len(columns) > _LONGEST:
+            return None
+        # a text has no end of line
+        written = "[" + "]\n[".join([form] * len(atoms)) + "]"
+        return (written % values).split("\n")
 
     def _many(self, operations: Sequence[Sequence[Any]]) -> list[str] | None:
         """Many operations, written by few calls of which each goes through all of them."""

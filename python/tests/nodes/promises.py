@@ -42,6 +42,13 @@ def marks(first: int, count: int) -> Marks:
     return [[("mark", mark)] for mark in range(first, first + count)]
 
 
+def is_running(pid: int) -> bool:
+    with suppress(ProcessLookupError):
+        os.kill(pid, 0)
+        return True
+    return False
+
+
 class Outcomes(Links):
     """What is raised by a tell says which operations are in the log, and a retry tells each of them once."""
 
@@ -620,16 +627,21 @@ class Clocks(Links):
             self.assertGreater(member.link._leases()[member.origin].until, before)
 
     def test_a_link_that_is_dropped_is_closed(self) -> None:
+        looks = self.link()
         link = connect(self.engine.url, log=self.log)
         member = Member(link, MARKED)
         origin, pid = member.origin, member.pid
         dropped, ended = weakref.ref(link), weakref.ref(member)
         del link, member
-        gc.collect()
-        self.assertEqual((dropped(), ended()), (None, None))
+
+        def is_closed() -> bool:
+            gc.collect()
+            gone = dropped() is None and ended() is None
+            return gone and looks._leases()[origin].is_free and not is_running(pid)
+
+        # the thread that renews its lease may hold it for a moment
+        self.wait_for(is_closed)
         self.assertEqual(self.link().origin, origin)
-        with self.assertRaises(ProcessLookupError):
-            os.kill(pid, 0)
 
 
 class Damages(Links):

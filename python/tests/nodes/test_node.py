@@ -468,7 +468,7 @@ class Programs(unittest.TestCase):
             self.assertEqual(words, said)
 
     def test_wide_is_told_of_in_the_same_words(self) -> None:
-        top = Path(__file__).resolve().parents[2]
+        top = Path(__file__).resolve().parents[3]
         told = [(top / "docs" / name).read_text() for name in ("GUIDE.md", "REFERENCE.md", "NODES.md")]
         for words in ([program_path(), "check"], [sys.executable, "-B", "-m", "chrrep.link"]):
             env = {**os.environ, "PYTHONPATH": str(top / "python")}

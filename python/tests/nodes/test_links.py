@@ -1,25 +1,32 @@
 """Members of logs in Redis and PostgreSQL, which these tests start, stop and end."""
 
+import os
+import signal
 import time
 import unittest
 from collections.abc import Callable
 from contextlib import closing
+from unittest.mock import patch
 
+import everything
+import leases
 import links
+import outages
 import promises
 import psycopg2
 from chrrep import Id
 from chrrep.link import LinkLost, join
+from chrrep.link.postgresql import PostgresLink
 from chrrep.names import UnkeptName
 from engines import Postgres, Redis, VolatileRedis
 from programs import PLAIN
 
 
-class RedisLinks(links.Everything, links.Leases, links.Outages):
+class RedisLinks(everything.Everything, leases.Leases, outages.Outages):
     kind = Redis
 
 
-class PostgresLinks(links.Everything, links.Outages):
+class PostgresLinks(everything.Everything, outages.Outages):
     kind = Postgres
 
 
@@ -93,6 +100,21 @@ class PostgresTables(links.Links):
         member.link.patience = 60.0
         self.assertEqual(member.tell(("a", 2), after=raised.exception), Id(member.origin, 2))
         self.assertEqual(member.show(), (("a", 1), ("a", 2)))
+
+    def test_a_connection_that_ends_late(self) -> None:
+        """The origin of a link that was closed is free by then."""
+        link = self.link()
+        assert isinstance(link, PostgresLink) and link._engine._made
+        process, close = link._engine._made.get_backend_pid(), link._engine.close
+
+        def stop() -> None:
+            os.kill(process, signal.SIGSTOP)
+            self.addCleanup(os.kill, process, signal.SIGCONT)
+            close()
+
+        with patch.object(link._engine, "close", stop):
+            link.close()
+        self.assertEqual(self.link().origin, link.origin)
 
     def test_a_name_with_a_nul(self) -> None:
         member = self.member(PLAIN)

@@ -2,14 +2,15 @@
 
 import random
 import unittest
-from collections import Counter
 from collections.abc import Iterable, Iterator
 from pathlib import Path
 
 import random_programs
 import slow_reader
+import slow_verdict
 from chrrep import Node, atoms_of
-from chrrep.link.room import Counting, Symbol, _pairs_of, _rules_of
+from chrrep.link.room import Counting
+from chrrep.rules import Rule, rules_of, symbols_of, weights_of
 from chrrep.texts import atoms_text, program_bytes, store_text
 from programs import COINS, PATHS
 from slow_verdict import Pattern, Program
@@ -86,7 +87,7 @@ class Readings(unittest.TestCase):
 
     def test_texts_of_the_repository(self) -> None:
         read = 0
-        for path in (*HERE.parents[1].glob("examples/**/*.chr"), *HERE.glob("explanations/*.chr")):
+        for path in (*HERE.parents[2].glob("examples/**/*.chr"), *HERE.parent.glob("explanations/*.chr")):
             text = program_bytes(path)
             try:
                 self.is_read(text, slow_reader.read(text))
@@ -117,11 +118,10 @@ class Readings(unittest.TestCase):
             before = kind
 
     def is_read(self, text: bytes, wanted: Program) -> None:
-        rules = _rules_of(text.decode(errors="replace"))
-        self.assertEqual([tuple(rule) for rule in rules], [
-            (symbols_of(rule.removed), symbols_of(rule.body)) for rule in wanted.rules
-        ])  # fmt: skip
-        pairs = _pairs_of(text.decode(errors="replace"))
+        read = text.decode(errors="replace")
+        self.assertEqual([rule._replace(name="") for rule in rules_of(read)], list(map(as_read, wanted.rules)))
+        self.assertEqual(list(symbols_of(read)), list(wanted.symbols))
+        pairs = weights_of(read)
         weights = {symbol: first * slow_reader.RADIX + second for symbol, (first, second) in pairs.items()}
         self.assertEqual({**dict.fromkeys(wanted.symbols, slow_reader.RADIX), **weights}, wanted.symbols)
         self.counts_rightly(text, wanted)
@@ -142,5 +142,10 @@ class Readings(unittest.TestCase):
             self.assertGreaterEqual(share([Pattern(name, (0,) * arity)]), 1)
 
 
-def symbols_of(atoms: Iterable[Pattern]) -> "Counter[Symbol]":
-    return Counter((atom.name, len(atom.terms)) for atom in atoms)
+def as_read(rule: slow_verdict.Rule) -> Rule:
+    """The rule as the package reads it, without its name. Each variable `_` has a number behind it there."""
+    kept, taken, body = (
+        [(atom.name, tuple(str(term).partition(" ")[0] for term in atom.terms)) for atom in atoms]
+        for atoms in (rule.kept, rule.removed, rule.body)
+    )
+    return Rule("", kept, taken, [f"{left}{sign}{right}" for left, sign, right in rule.guard], body)

@@ -1,6 +1,7 @@
 """The twins for asyncio."""
 
 import asyncio
+import inspect
 import os
 import threading
 import unittest
@@ -11,8 +12,8 @@ from tempfile import TemporaryDirectory
 
 import chrrep
 from chrrep import Id, Node
-from chrrep.asynchronous import AsyncNode, join
-from chrrep.link import LogUnusable, NoProgram
+from chrrep.asynchronous import AsyncMember, AsyncNode, join
+from chrrep.link import LogUnusable, Member, NoProgram
 from forks import said_in_fork
 from programs import COINS, PATHS, PLAIN
 
@@ -48,6 +49,19 @@ class Nodes(unittest.IsolatedAsyncioTestCase):
                 pid = node.pid
                 self.assertTrue(is_alive(pid))
             self.assertFalse(is_alive(pid))
+
+    async def test_twins_lack_few_calls(self) -> None:
+        """Those that they have take the same arguments, and are awaited."""
+        texts = {"admit_texts", "merge_texts", "merge_soon", "merge_text_soon"}
+        elsewhere = {"going_over", "listen", "named", "following", "change_from"}
+        for twin, of, lacks in ((AsyncNode, Node, texts), (AsyncMember, Member, elsewhere)):
+            calls = {name for name, call in vars(of).items() if inspect.isfunction(call) and name[0] != "_"}
+            self.assertEqual(calls - vars(twin).keys(), lacks)
+            for name in calls - lacks - {"changes", "close", "follow"}:
+                call = getattr(twin, name)
+                self.assertEqual(inspect.signature(call), inspect.signature(getattr(of, name)))
+                self.assertTrue(inspect.iscoroutinefunction(call))
+                self.assertEqual(call.__doc__, f"As `{of.__name__}.{name}`.")
 
     async def test_a_node_that_has_not_begun(self) -> None:
         node = AsyncNode(COINS, 1)

@@ -19,7 +19,8 @@ from tempfile import TemporaryDirectory
 from unittest.mock import patch
 
 import chrrep
-import links
+import everything
+import leases
 import promises
 from chrrep import Id
 from chrrep.link import (
@@ -46,11 +47,11 @@ from programs import COINS, MARKED, PATHS, PLAIN, REGISTER
 
 
 NOBODY = 65_534
-REPOSITORY = Path(__file__).resolve().parents[2]
+REPOSITORY = Path(__file__).resolve().parents[3]
 LOGS = shutil.ignore_patterns(".chrrep", "log")
 
 
-class SqliteLinks(links.Everything, links.Leases):
+class SqliteLinks(everything.Everything, leases.Leases):
     kind = Embedded
 
 

@@ -12,7 +12,7 @@ from pathlib import Path
 from chrrep.node import program_path
 from shims import is_script
 
-EXAMPLES = Path(__file__).resolve().parents[2] / "examples"
+EXAMPLES = Path(__file__).resolve().parents[3] / "examples"
 SECONDS = 60.0
 KIB = 1_024
 ENOUGH = 256 * KIB

@@ -18,7 +18,7 @@ import run_rows as rows
 from chrrep.node import program_path
 from shims import MEMORY, SECONDS, Refusal, made_shim, run_refused, why_not
 
-EXAMPLES = Path(__file__).resolve().parents[2] / "examples"
+EXAMPLES = Path(__file__).resolve().parents[3] / "examples"
 WORKERS = os.cpu_count() or 1
 WANT_OF_MEMORY = 4
 BEFORE_WEIGHTS = b"so that the rules come to an end.\n"

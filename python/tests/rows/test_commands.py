@@ -9,8 +9,8 @@ from pathlib import Path
 
 from chrrep.node import program_path
 
-EXAMPLES = Path(__file__).resolve().parents[2] / "examples"
-PROJECT = Path(__file__).resolve().parents[1] / "pyproject.toml"
+EXAMPLES = Path(__file__).resolve().parents[3] / "examples"
+PROJECT = Path(__file__).resolve().parents[2] / "pyproject.toml"
 SECONDS = 60.0
 
 COINS = """:- chr_constraint coin/0, note/0.
