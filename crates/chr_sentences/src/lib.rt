@@ -1,8 +1,10 @@
 //! A diagnosis in sentences.
 #![tactic(auto)]
 
+mod beside_text;
 mod crowd_text;
 mod judged_text;
+mod keys;
 mod limits;
 mod overlap_text;
 mod pairs;

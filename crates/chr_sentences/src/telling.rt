@@ -1,5 +1,6 @@
 //! What is to be told of a text, as text.
 
+use crate::beside_text::push_beside;
 use crate::crowd_text::push_throng;
 use crate::judged_text::{by_option, push_judged};
 use crate::limits::MAX_TOLD_PAIRS;
@@ -108,6 +109,7 @@ fn push_census(
     all: bool,
 ) -> Result<(), AllocError> {
     out.push_str("Every store comes to one end, in whatever order the rules are applied.\n")?;
+    push_beside(alloc, out, census.accepted.weighed())?;
     let pairs = pairs_of(alloc, &census.counts)?;
     if !all && MAX_TOLD_PAIRS < pairs.len() {
         return Ok(write!(
