@@ -31,7 +31,7 @@ SECONDS = 60.0
 WORKERS = os.cpu_count() or 1
 
 SEED = 40
-PROGRAMS = int(os.environ.get("CHRREP_PROGRAMS", "2000"))
+PROGRAMS = int(os.environ.get("CHRREP_PROGRAMS", "3000"))
 """So many random programs are explained of each kind."""
 SYMBOLS = "abcd"
 MAX_BODY = 4
