@@ -2,9 +2,9 @@
 
 use crate::drawings::difference::changed_part;
 use crate::drawings::html::{push_html, push_html_char};
+use crate::sentences::Told;
 use chr_diagnosis::Proposal;
 use chr_faults::Span;
-use chr_sentences::Told;
 use std::alloc::{AllocError, Global};
 use std::fmt::Write;
 

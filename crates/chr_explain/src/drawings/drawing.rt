@@ -4,9 +4,9 @@ use crate::drawings::graph_drawing::push_graph;
 use crate::drawings::graphs::graph_of;
 use crate::drawings::label::{Align, push_label};
 use crate::drawings::peak_drawing::push_peak_drawing;
+use crate::sentences::told_text;
 use chr_diagnosis::{Diagnosis, Judged};
 use chr_faults::Names;
-use chr_sentences::told_text;
 use std::alloc::{AllocError, Global};
 
 /// Draws a text in one node.

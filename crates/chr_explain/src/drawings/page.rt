@@ -9,10 +9,10 @@ use crate::drawings::graphs::graph_of;
 use crate::drawings::html::{push_first_line, push_html};
 use crate::drawings::listing::push_listing;
 use crate::drawings::style::STYLE;
+use crate::sentences::Told;
 use chr_diagnosis::{Diagnosis, Peak, Proposal};
 use chr_faults::{Names, TextFaults};
 use chr_read::Fault;
-use chr_sentences::Told;
 use std::alloc::{AllocError, Global};
 use std::fmt::Write;
 

@@ -1,6 +1,4 @@
 //! A diagnosis in sentences.
-#![tactic(auto)]
-
 mod beside_text;
 mod crowd_text;
 mod judged_text;
@@ -16,8 +14,8 @@ mod told;
 mod weighing_text;
 mod weight_text;
 
-pub use crowd_text::{columns_text, has_head};
-pub use pairs::{ToldPair, pairs_of, push_numbers};
-pub use symbol_text::push_symbol;
-pub use telling::told_text;
-pub use told::Told;
+pub(crate) use crowd_text::{columns_text, has_head};
+pub(crate) use pairs::{ToldPair, pairs_of, push_numbers};
+pub(crate) use symbol_text::push_symbol;
+pub(crate) use telling::told_text;
+pub(crate) use told::Told;

@@ -1,15 +1,15 @@
 //! What is to be told of a text, as text.
 
-use crate::beside_text::push_beside;
-use crate::crowd_text::push_throng;
-use crate::judged_text::{by_option, push_judged};
-use crate::limits::MAX_TOLD_PAIRS;
-use crate::pairs::{ToldPair, pairs_of, push_numbers};
-use crate::peak_text::{advice_of, push_peak};
-use crate::proposal_text::{kept_of, push_proposals};
-use crate::told::Told;
-use crate::weighing_text::{push_cycle, push_found};
-use crate::weight_text::{can_lower, push_lowering, push_weights};
+use crate::sentences::beside_text::push_beside;
+use crate::sentences::crowd_text::push_throng;
+use crate::sentences::judged_text::{by_option, push_judged};
+use crate::sentences::limits::MAX_TOLD_PAIRS;
+use crate::sentences::pairs::{ToldPair, pairs_of, push_numbers};
+use crate::sentences::peak_text::{advice_of, push_peak};
+use crate::sentences::proposal_text::{kept_of, push_proposals};
+use crate::sentences::told::Told;
+use crate::sentences::weighing_text::{push_cycle, push_found};
+use crate::sentences::weight_text::{can_lower, push_lowering, push_weights};
 use chr_diagnosis::{
     Census, Diagnosis, Judged, NamedProgram, Peak, Proposal, Throng, ToldRule, Unlowered, told_rule,
 };
@@ -238,7 +238,7 @@ fn faulty_told(alloc: Global, text: &[u8], faults: &TextFaults) -> Result<Told, 
 }
 
 /// What is to be told of a text, of all pairs of rules where `all`.
-pub fn told_text(
+pub(crate) fn told_text(
     alloc: Global,
     text: &[u8],
     judged: &Judged,

@@ -2,7 +2,7 @@
 
 /// What is told of a text, and those of its parts that stand at their own places on a page.
 #[derive(Drop)]
-pub struct Told {
+pub(crate) struct Told {
     /// All that is told, in whole lines.
     pub text: String,
     /// What a person can do where a case fails, in sentences.

@@ -70,7 +70,11 @@ impl Key {
 }
 
 /// The columns of a symbol in which the heads of each rule agree.
-pub(crate) fn key_of(alloc: Global, program: &Program, symbol: SymbolId) -> Result<Key, AllocError> {
+pub(crate) fn key_of(
+    alloc: Global,
+    program: &Program,
+    symbol: SymbolId,
+) -> Result<Key, AllocError> {
     let mut key = Key {
         is_compared: false,
         columns: Vec::new(alloc),

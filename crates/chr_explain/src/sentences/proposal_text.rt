@@ -106,11 +106,7 @@ pub(crate) fn kept_of(
 }
 
 /// Adds a proposal, and what it alone keeps.
-fn push_proposal(
-    out: &mut String,
-    proposal: &Proposal,
-    kept: &[String],
-) -> Result<(), AllocError> {
+fn push_proposal(out: &mut String, proposal: &Proposal, kept: &[String]) -> Result<(), AllocError> {
     write!(out, " with this in place of rule {}:\n", proposal.rule)?;
     push_lines(out, proposal.rules.as_str())?;
     for sentence in kept {

@@ -1,6 +1,6 @@
 //! A case that fails, as text.
 
-use crate::overlap_text::{ToldOverlap, told_overlap};
+use crate::sentences::overlap_text::{ToldOverlap, told_overlap};
 use chr_base::bag::Bag;
 use chr_base::derivation::Derivation;
 use chr_base::program::Program;

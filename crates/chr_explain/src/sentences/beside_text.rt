@@ -1,7 +1,7 @@
 //! Which facts of an accepted program stay side by side, as text.
 
-use crate::keys::{Key, key_of};
-use crate::symbol_text::push_symbol;
+use crate::sentences::keys::{Key, key_of};
+use crate::sentences::symbol_text::push_symbol;
 use chr_base::atom::SymbolId;
 use chr_base::program::Program;
 use chr_base::text::push_store;
@@ -15,7 +15,11 @@ const SEARCHED: &str =
     "What may stay side by side (searched: stores of two facts with values 0 and 1):\n";
 
 /// Adds the symbol that a line tells of.
-fn push_line_start(out: &mut String, program: &Program, symbol: SymbolId) -> Result<(), AllocError> {
+fn push_line_start(
+    out: &mut String,
+    program: &Program,
+    symbol: SymbolId,
+) -> Result<(), AllocError> {
     out.push_str("  ")?;
     push_symbol(out, program, symbol)?;
     out.push_str(": ")
@@ -60,12 +64,16 @@ fn columns_of(alloc: Global, arity: usize, number: usize) -> Result<Vec<bool>, A
 
 /// Whether two sets of columns have one in common.
 fn have_common(left: &[bool], right: &[bool]) -> bool {
-    left.iter().zip(right.iter()).any(|(one, other)| *one && *other)
+    left.iter()
+        .zip(right.iter())
+        .any(|(one, other)| *one && *other)
 }
 
 /// Whether each column of the first set is one of the second.
 fn is_part(part: &[bool], columns: &[bool]) -> bool {
-    part.iter().zip(columns.iter()).all(|(one, other)| !*one || *other)
+    part.iter()
+        .zip(columns.iter())
+        .all(|(one, other)| !*one || *other)
 }
 
 /// Tells whether a fact of the symbol that is told twice may stay twice.
