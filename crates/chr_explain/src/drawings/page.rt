@@ -152,7 +152,7 @@ pub(crate) fn page_text(
     let words = told.text.as_str();
     let mut out = String::new(alloc);
     push_head(&mut out, diagnosis, words)?;
-    push_listing(alloc, &mut out, text, diagnosis, words)?;
+    push_listing(alloc, &mut out, text, diagnosis, &told.notes)?;
     match diagnosis {
         Diagnosis::Text(_) => push_shut_words(&mut out, words)?,
         Diagnosis::Fails(peak) => {

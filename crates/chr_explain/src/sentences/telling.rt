@@ -13,7 +13,7 @@ use crate::sentences::weight_text::{can_lower, push_lowering, push_weights};
 use chr_diagnosis::{
     Census, Diagnosis, Judged, NamedProgram, Peak, Proposal, Throng, ToldRule, Unlowered, told_rule,
 };
-use chr_faults::{Names, TextFaults, faults_told};
+use chr_faults::{Names, TextFaults, faults_told, notes_of};
 use chr_join::Coverage;
 use chr_overlaps::cases::MAX_TYPES;
 use chr_weighing::{MAX_SEARCH_STEPS, Weighing};
@@ -181,6 +181,7 @@ fn program_told(
     push_program(alloc, &mut told, &names, judged, all)?;
     Ok(Told {
         text: told,
+        notes: Vec::new(alloc),
         advice: Vec::new(alloc),
         kept: Vec::new(alloc),
     })
@@ -222,6 +223,7 @@ fn peak_told(
     push_proposals(&mut told, judged.coverage, proposals, &kept)?;
     Ok(Told {
         text: told,
+        notes: Vec::new(alloc),
         advice,
         kept,
     })
@@ -229,9 +231,11 @@ fn peak_told(
 
 /// What is to be told of a text that is no program.
 fn faulty_told(alloc: Global, text: &[u8], faults: &TextFaults) -> Result<Told, AllocError> {
-    let told = faults_told(alloc, text, faults)?;
+    let notes = notes_of(alloc, text, faults)?;
+    let told = faults_told(alloc, text, faults, &notes)?;
     Ok(Told {
         text: told,
+        notes,
         advice: Vec::new(alloc),
         kept: Vec::new(alloc),
     })
