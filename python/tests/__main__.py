@@ -9,10 +9,10 @@ With several processes each test runs by itself, or each module or class whose t
 what it writes is told when it has ended. Those over engines, which mostly wait, take six. With --brief only what fails
 is told, and how many have ended where standard error is a terminal.
 
-The environment's CHRREP_PROGRAMS is how many random programs of each kind are judged, 3,000 where it doesn't say (of
-those whose weights are searched for 2,000), CHRREP_KILLS how many nodes are killed at random moments over each engine,
-CHRREP_OPERATIONS how many operations are told to see that room stays bounded, and CHRREP_REFUSED how many examples are
-run with memory refused, all where it doesn't say.
+The environment's CHRREP_PROGRAMS is how many random programs of each kind are judged and explained, 3,000 where it
+doesn't say, CHRREP_KILLS how many nodes are killed at random moments over each engine, CHRREP_OPERATIONS how many
+operations are told to see that room stays bounded, and CHRREP_REFUSED how many examples are run with memory refused,
+all where it doesn't say.
 """
 
 import argparse

@@ -11,6 +11,7 @@ from collections import Counter
 from concurrent.futures import ThreadPoolExecutor
 from pathlib import Path
 
+import slow_beside
 from chrrep.node import program_path
 from random_programs import program
 from rule_texts import read_program, replaced, store
@@ -30,8 +31,8 @@ SECONDS = 60.0
 WORKERS = os.cpu_count() or 1
 
 SEED = 40
-PROGRAMS = int(os.environ.get("CHRREP_PROGRAMS", "2000"))
-"""So many random programs with a rule that doesn't lower are explained."""
+PROGRAMS = int(os.environ.get("CHRREP_PROGRAMS", "3000"))
+"""So many random programs are explained of each kind."""
 SYMBOLS = "abcd"
 MAX_BODY = 4
 DECLARED = ":- chr_constraint a/0, b/0, c/0, d/0.\n"
@@ -49,6 +50,9 @@ KEPT = re.compile(
     PROPOSED.pattern + r"(?:Kept by this one alone: (.*)\n)?(?:Kept twice by this one alone: (.*)\n)?(No small store)?"
 )
 NO_CHANGE = "No change of one rule was found with which the program is accepted.\n"
+
+BESIDE = re.compile(r"^What may stay .*\n(?:  \w+/\d: .*\n)*", re.M)
+KINDS_BESIDE = ("may stay twice", "never stays twice", " may stay that differ ", "no two")
 
 PAIR = re.compile(r"^  rules (\d+) (\d+): overlaps (\d+), cases (\d+)$", re.M)
 EDGE = re.compile(r'^  rule(\d+) -- rule(\d+) \[label="overlaps (\d+), cases (\d+)"\];$', re.M)
@@ -251,6 +255,36 @@ class Staying(unittest.TestCase):
                 with self.subTest(file.name):
                     told += self.check_kept(made, answer)
         self.assertGreater(told, 30)
+
+
+class SideBySide(unittest.TestCase):
+    """What is told of an accepted program: which facts may stay side by side, by the slow program."""
+
+    def check(self, made: Program, answer: str) -> Counter[str]:
+        lines = "".join(BESIDE.findall(answer))
+        self.assertEqual(lines, slow_beside.told(made))
+        return Counter(kind for kind in KINDS_BESIDE for _ in range(lines.count(kind)))
+
+    def test_random_programs(self) -> None:
+        chance = random.Random(SEED)
+        kinds: Counter[str] = Counter()
+        for _ in range(PROGRAMS):
+            made = program(chance)
+            answer = run("explain", str(made).encode())[1]
+            with self.subTest(program=str(made)):
+                if answer.startswith("accepted"):
+                    kinds += self.check(made, answer)
+        self.assertGreater(min(kinds[kind] for kind in KINDS_BESIDE), PROGRAMS // 250, kinds)
+
+    def test_examples(self) -> None:
+        """Of all texts here and in the examples folder."""
+        found = 0
+        for file in [*sorted(TEXTS.glob("*.chr")), *sorted(EXAMPLES.glob("*.chr"))]:
+            answer = run("explain", file.read_bytes())[1]
+            if answer.startswith("accepted"):
+                with self.subTest(file.name):
+                    found += self.check(read_program(file.read_text().partition("\n---")[0]), answer).total()
+        self.assertGreater(found, 80)
 
 
 class Drawings(unittest.TestCase):

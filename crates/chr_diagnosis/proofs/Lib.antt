@@ -6,3 +6,4 @@ mod FoundCases
 mod SmallerCases
 mod FirstElements
 mod KeptAlone
+mod Pairs

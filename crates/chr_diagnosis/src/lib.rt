@@ -1,6 +1,7 @@
 //! What a verdict on a program text is for, and changes with which a refused one is accepted.
 #![tactic(auto)]
 
+mod beside;
 mod diagnosis;
 mod draft;
 mod draft_text;
@@ -18,6 +19,7 @@ mod staying;
 mod stores;
 mod ways;
 
+pub use beside::{Pair, pairs_beside, staying_pair};
 pub use diagnosis::{Census, Counted, Diagnosis, Judged, Throng, Unlowered, Verdict, diagnose};
 pub use draft_text::sign;
 pub use keeping::kept_alone;

@@ -26,3 +26,6 @@ pub const MAX_STORE_ATOMS: usize = 3;
 
 /// How many small stores are looked at.
 pub const MAX_SMALL_STORES: usize = 5_000;
+
+/// How many values the arguments of two facts take that are tried beside each other, from 0 on.
+pub const BESIDE_VALUES: usize = 2;

@@ -20,7 +20,6 @@ mod page;
 mod peak_drawing;
 mod style;
 mod svg;
-mod told_parts;
 
 pub(crate) use drawing::drawn_text;
 pub(crate) use page::page_text;

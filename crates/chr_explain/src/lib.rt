@@ -3,6 +3,7 @@
 
 mod drawings;
 mod explanation;
+mod sentences;
 
 pub use chr_diagnosis::{
     Census, Counted, Diagnosis, Judged, MAX_PROPOSALS, MAX_TOLD_STEPS, Peak, Proposal, Throng,

@@ -80,29 +80,35 @@ struct Source<'a> {
     bad: &'a [BadClause],
 }
 
-/// Adds where a bad clause has its fault, and what that is.
-fn push_cause(
-    out: &mut String,
-    place: Place,
-    told: BadClause,
-    cause: &Cause<'_>,
-    program: &Program,
-) -> Result<(), AllocError> {
-    let fault = told.fault.number();
-    write!(out, "line {}, column {}, ", place.line, place.column)?;
-    write!(out, "clause {}, fault {fault}: {cause}", told.number)?;
-    if let Cause::Undeclared(_) = cause {
-        push_symbols(out, program)?;
-    }
-    out.push_str("\n")
+/// What is told of one bad clause.
+#[derive(Drop)]
+pub struct Note {
+    /// The clause, with its fault.
+    pub told: BadClause,
+    /// How many bytes of the text stand before the place of the fault.
+    pub at: usize,
+    /// What is wrong.
+    pub message: String,
+    /// What would be right.
+    pub remedy: String,
 }
 
-/// Adds what would be right of a fault that does not follow of an earlier one.
-fn push_remedy(out: &mut String, cause: &Cause<'_>) -> Result<(), AllocError> {
-    match cause.foreign() {
-        Some(foreign) => write!(out, "    {foreign}\n"),
-        None => write!(out, "    {}\n", cause.remedy()),
+/// What is wrong, in words.
+fn message_of(alloc: Global, cause: &Cause<'_>, program: &Program) -> Result<String, AllocError> {
+    let mut message = format!(in alloc; "{cause}")?;
+    if let Cause::Undeclared(_) = cause {
+        push_symbols(&mut message, program)?;
     }
+    Ok(message)
+}
+
+/// What would be right of a fault that does not follow of an earlier one.
+fn remedy_of(alloc: Global, cause: &Cause<'_>) -> Result<String, AllocError> {
+    let remedy = match cause.foreign() {
+        Some(foreign) => format!(in alloc; "{foreign}")?,
+        None => format!(in alloc; "{}", cause.remedy())?,
+    };
+    Ok(remedy)
 }
 
 /// The number of an earlier bad clause of which this one's fault follows.
@@ -120,31 +126,45 @@ fn follows_of(
     }
 }
 
-/// Adds what is wrong with a bad clause.
-fn push_bad(
-    alloc: Global,
-    out: &mut String,
-    source: Source<'_>,
-    told: BadClause,
-) -> Result<(), AllocError> {
+/// What is told of a bad clause.
+fn note_of(alloc: Global, source: Source<'_>, told: BadClause) -> Result<Note, AllocError> {
     let clause = clause_of(source.plain, told.number);
     let program = program_before(alloc, source.plain, source.bad, told.number)?;
     let finding = finding_in(alloc, clause.bytes, told.fault, &program)?;
     let at = place_in(source.text, clause.before.saturating_add(finding.at));
-    push_cause(
-        out,
-        place_of(source.text, at),
+    let message = message_of(alloc, &finding.cause, &program)?;
+    let remedy = match follows_of(alloc, source, told, &finding.cause)? {
+        Some(number) => format!(in alloc;
+            "clause {number}, which is bad, would declare it: mend that one first"
+        )?,
+        None => remedy_of(alloc, &finding.cause)?,
+    };
+    Ok(Note {
         told,
-        &finding.cause,
-        &program,
-    )?;
-    push_line(out, source.text, at)?;
-    match follows_of(alloc, source, told, &finding.cause)? {
-        Some(number) => Ok(write!(
-            out,
-            "    clause {number}, which is bad, would declare it: mend that one first\n"
-        )?),
-        None => push_remedy(out, &finding.cause),
+        at,
+        message,
+        remedy,
+    })
+}
+
+impl Note {
+    /// Where the fault stands in the text.
+    pub fn place(&self, text: &[u8]) -> Place {
+        place_of(text, self.at.min(text.len()))
+    }
+
+    /// Adds what is told, with the line of the fault.
+    fn push(&self, out: &mut String, text: &[u8]) -> Result<(), AllocError> {
+        let place = self.place(text);
+        let fault = self.told.fault.number();
+        write!(out, "line {}, column {}, ", place.line, place.column)?;
+        write!(out, "clause {}, fault {fault}: ", self.told.number)?;
+        out.push_str(self.message.as_str())?;
+        out.push_str("\n")?;
+        push_line(out, text, self.at.min(text.len()))?;
+        out.push_str("    ")?;
+        out.push_str(self.remedy.as_str())?;
+        out.push_str("\n")
     }
 }
 
@@ -188,22 +208,39 @@ pub fn bad_spans(alloc: Global, text: &[u8], bad: &[BadClause]) -> Result<Vec<Sp
     Ok(spans)
 }
 
-/// The explanation of these bad clauses.
-fn told_of(alloc: Global, text: &[u8], bad: &[BadClause]) -> Result<String, AllocError> {
+/// What is told of each of these bad clauses.
+fn clause_notes(alloc: Global, text: &[u8], bad: &[BadClause]) -> Result<Vec<Note>, AllocError> {
     let plain = without_comments(alloc, text)?;
-    let mut out = String::new(alloc);
     let source = Source {
         text,
         plain: &plain,
         bad,
     };
+    let mut notes = Vec::new(alloc);
     for clause in bad {
-        push_bad(alloc, &mut out, source, *clause)?;
+        notes.push(note_of(alloc, source, *clause)?)?;
     }
-    if 1 < bad.len() {
+    Ok(notes)
+}
+
+/// What is told of each bad clause of a text.
+pub fn notes_of(alloc: Global, text: &[u8], faults: &TextFaults) -> Result<Vec<Note>, AllocError> {
+    match faults {
+        TextFaults::TooLong => Ok(Vec::new(alloc)),
+        TextFaults::Clauses(bad) => clause_notes(alloc, text, bad),
+    }
+}
+
+/// The explanation of a text with these bad clauses.
+fn clauses_told(alloc: Global, text: &[u8], notes: &[Note]) -> Result<String, AllocError> {
+    let mut out = String::new(alloc);
+    for note in notes {
+        note.push(&mut out, text)?;
+    }
+    if 1 < notes.len() {
         out.push_str("A clause after a bad one is read as if the bad one were not there.\n")?;
     }
-    if bad.len() == MAX_TOLD_FAULTS {
+    if notes.len() == MAX_TOLD_FAULTS {
         write!(
             out,
             "No more than {MAX_TOLD_FAULTS} bad clauses are told.\n"
@@ -212,14 +249,19 @@ fn told_of(alloc: Global, text: &[u8], bad: &[BadClause]) -> Result<String, Allo
     Ok(out)
 }
 
-/// The explanation of what is wrong with a text.
-pub fn faults_told(alloc: Global, text: &[u8], faults: &TextFaults) -> Result<String, AllocError> {
+/// The explanation of what is wrong with a text, of which these are the notes.
+pub fn faults_told(
+    alloc: Global,
+    text: &[u8],
+    faults: &TextFaults,
+    notes: &[Note],
+) -> Result<String, AllocError> {
     match faults {
         TextFaults::TooLong => {
             let told = format!(in alloc; "fault 2: the text has more than {MAX_TEXT} bytes\n")?;
             Ok(told)
         }
-        TextFaults::Clauses(bad) => told_of(alloc, text, bad),
+        TextFaults::Clauses(_) => clauses_told(alloc, text, notes),
     }
 }
 
@@ -244,6 +286,7 @@ pub fn explain_text(alloc: Global, text: &[u8]) -> Result<Option<String>, AllocE
     if are_none(&faults) {
         return Ok(None);
     }
-    let told = faults_told(alloc, text, &faults)?;
+    let notes = notes_of(alloc, text, &faults)?;
+    let told = faults_told(alloc, text, &faults, &notes)?;
     Ok(Some(told))
 }

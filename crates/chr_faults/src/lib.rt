@@ -18,7 +18,7 @@ mod syntax;
 mod token;
 mod word;
 
-pub use fault_text::{bad_spans, explain_text, faults_told};
+pub use fault_text::{Note, bad_spans, explain_text, faults_told, notes_of};
 pub use faults::{BadClause, TextFaults, text_faults, texts_have_one_list};
 pub use limits::MAX_TOLD_FAULTS;
 pub use line::{line_end, line_start, push_line, shown};

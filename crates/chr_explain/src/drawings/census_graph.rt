@@ -3,10 +3,10 @@
 use crate::drawings::graph::{Edge, Graph, Meaning, Node};
 use crate::drawings::groups::{Group, groups_of, place_of_rule};
 use crate::drawings::limits::MAX_TOLD_COPIES;
+use crate::sentences::{ToldPair, pairs_of, push_numbers};
 use chr_diagnosis::{Census, NamedProgram, told_rule};
 use chr_faults::Names;
 use chr_join::Coverage;
-use chr_sentences::{ToldPair, pairs_of, push_numbers};
 use std::alloc::{AllocError, Global};
 use std::fmt::Write;
 

@@ -2,20 +2,17 @@
 
 use crate::drawings::difference::changed_part;
 use crate::drawings::html::{push_html, push_html_char};
-use crate::drawings::told_parts::{advice_in, kept_in};
+use crate::sentences::Told;
 use chr_diagnosis::Proposal;
 use chr_faults::Span;
 use std::alloc::{AllocError, Global};
 use std::fmt::Write;
 
-/// Adds lines, each as a paragraph.
-fn push_paragraphs(out: &mut String, lines: &[&str]) -> Result<(), AllocError> {
-    for line in lines {
-        out.push_str("<p>")?;
-        push_html(out, line)?;
-        out.push_str("</p>\n")?;
-    }
-    Ok(())
+/// Adds a paragraph.
+fn push_paragraph(out: &mut String, sentence: &str) -> Result<(), AllocError> {
+    out.push_str("<p>")?;
+    push_html(out, sentence)?;
+    out.push_str("</p>\n")
 }
 
 /// Adds a rule, with a mark at the part that is new.
@@ -61,7 +58,7 @@ fn push_change(
     out: &mut String,
     text: &[u8],
     proposal: &Proposal,
-    kept: &[&str],
+    kept: &[String],
 ) -> Result<(), AllocError> {
     write!(
         out,
@@ -72,7 +69,10 @@ fn push_change(
     out.push_str("<pre class=\"change\" tabindex=\"0\">")?;
     push_rules(alloc, out, before, proposal.rules.as_str())?;
     out.push_str("</pre>\n")?;
-    push_paragraphs(out, kept)
+    for sentence in kept {
+        push_paragraph(out, sentence.as_str())?;
+    }
+    Ok(())
 }
 
 /// Adds what would be right.
@@ -81,14 +81,14 @@ pub(crate) fn push_changes(
     out: &mut String,
     text: &[u8],
     proposals: &[Proposal],
-    told: &str,
+    told: &Told,
 ) -> Result<(), AllocError> {
     out.push_str("<section>\n<h2>What would be right</h2>\n")?;
-    let advice = advice_in(alloc, told)?;
-    push_paragraphs(out, &advice)?;
-    for (number, proposal) in proposals.iter().enumerate() {
-        let kept = kept_in(alloc, told, number)?;
-        push_change(alloc, out, text, proposal, &kept)?;
+    for sentence in &told.advice {
+        push_paragraph(out, sentence)?;
+    }
+    for (proposal, kept) in proposals.iter().zip(told.kept.iter()) {
+        push_change(alloc, out, text, proposal, kept)?;
     }
     out.push_str("</section>\n")
 }

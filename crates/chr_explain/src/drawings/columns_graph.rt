@@ -1,13 +1,13 @@
 //! The columns of an overlap with too many cases, as nodes and edges.
 
 use crate::drawings::graph::{Edge, Graph, Meaning, Node};
+use crate::sentences::{columns_text, has_head, push_symbol};
 use chr_base::atom::SymbolId;
 use chr_base::program::Program;
 use chr_base::rule::Rule;
 use chr_base::term::{Cmp, Comparison, Pattern, Term};
 use chr_diagnosis::sign;
 use chr_overlaps::Overlap;
-use chr_sentences::{columns_text, has_head, push_symbol};
 use chr_sorting::{Sorting, finest_sorts};
 use std::alloc::{AllocError, Global};
 

@@ -1,13 +1,13 @@
 //! Rules that keep the weight, as nodes and edges.
 
 use crate::drawings::graph::{Edge, Graph, Meaning, Node};
+use crate::sentences::push_symbol;
 use chr_base::atom::SymbolId;
 use chr_base::program::Program;
 use chr_base::rule::Rule;
 use chr_base::term::Pattern;
 use chr_diagnosis::{NamedProgram, ToldRule, told_rule};
 use chr_faults::Names;
-use chr_sentences::push_symbol;
 use chr_weighing::Cycle;
 use std::alloc::{AllocError, Global};
 

@@ -4,9 +4,9 @@ use crate::drawings::graph_drawing::push_graph;
 use crate::drawings::graphs::graph_of;
 use crate::drawings::label::{Align, push_label};
 use crate::drawings::peak_drawing::push_peak_drawing;
+use crate::sentences::told_text;
 use chr_diagnosis::{Diagnosis, Judged};
 use chr_faults::Names;
-use chr_sentences::told_text;
 use std::alloc::{AllocError, Global};
 
 /// Draws a text in one node.
@@ -24,7 +24,7 @@ fn push_told(
     judged: &Judged,
 ) -> Result<(), AllocError> {
     let told = told_text(alloc, text, judged, &[], false)?;
-    push_text(out, told.as_str())
+    push_text(out, told.text.as_str())
 }
 
 /// Draws what is told of a text that has no case that fails: as nodes and edges, or in one node.
@@ -42,7 +42,7 @@ fn push_others(
         return push_graph(out, &graph, "");
     }
     let told = told_text(alloc, text, judged, &[], false)?;
-    push_graph(out, &graph, told.as_str())
+    push_graph(out, &graph, told.text.as_str())
 }
 
 /// Draws both ways of a case that fails, an accepted program, or what else is told of a text.

@@ -1,9 +1,8 @@
 //! The text of a program on a page, with marks at its faulty places.
 
 use crate::drawings::html::{push_html, push_html_char};
-use crate::drawings::told_parts::{Note, notes_in};
 use chr_diagnosis::Diagnosis;
-use chr_faults::{Span, TextFaults, bad_spans, rule_span, shown};
+use chr_faults::{Note, Span, TextFaults, bad_spans, rule_span, shown};
 use chr_overlaps::Overlap;
 use std::alloc::{AllocError, Global};
 
@@ -64,15 +63,26 @@ fn push_turn(out: &mut String, was_in: bool, is_in: bool) -> Result<(), AllocErr
     })
 }
 
+/// Adds what is told of a bad clause.
+fn push_note(out: &mut String, note: &Note) -> Result<(), AllocError> {
+    out.push_str("<em>")?;
+    push_html(out, note.message.as_str())?;
+    out.push_str("<br>")?;
+    push_html(out, note.remedy.as_str())?;
+    out.push_str("</em>")
+}
+
 /// Adds what is told of the line of this number.
-fn push_notes(out: &mut String, notes: &[Note<'_>], line: usize) -> Result<(), AllocError> {
-    for note in notes.iter().filter(|note| note.line == line) {
-        out.push_str("<em>")?;
-        for (number, words) in note.words.iter().enumerate() {
-            out.push_str(if number == 0 { "" } else { "<br>" })?;
-            push_html(out, words)?;
+fn push_notes(
+    out: &mut String,
+    text: &[u8],
+    notes: &[Note],
+    line: usize,
+) -> Result<(), AllocError> {
+    for note in notes {
+        if note.place(text).line == line {
+            push_note(out, note)?;
         }
-        out.push_str("</em>")?;
     }
     Ok(())
 }
@@ -83,7 +93,7 @@ fn push_marked(
     out: &mut String,
     text: &[u8],
     spans: &[Span],
-    notes: &[Note<'_>],
+    notes: &[Note],
 ) -> Result<(), AllocError> {
     let mut was_in = false;
     let mut line: usize = 1;
@@ -92,7 +102,7 @@ fn push_marked(
         push_turn(out, was_in, is_in)?;
         if *byte == b'\n' {
             out.push_str("</span>\n")?;
-            push_notes(out, notes, line)?;
+            push_notes(out, text, notes, line)?;
             out.push_str("<span class=\"line\">")?;
             line = line.saturating_add(1);
         } else {
@@ -101,19 +111,7 @@ fn push_marked(
         was_in = is_in;
     }
     push_turn(out, was_in, false)?;
-    push_notes(out, notes, line)
-}
-
-/// What is told of the lines of a text that is no program.
-fn notes_of<'t>(
-    alloc: Global,
-    diagnosis: &Diagnosis,
-    told: &'t str,
-) -> Result<Vec<Note<'t>>, AllocError> {
-    match diagnosis {
-        Diagnosis::Text(_) => notes_in(alloc, told),
-        _ => Ok(Vec::new(alloc)),
-    }
+    push_notes(out, text, notes, line)
 }
 
 /// Adds the text of a program with marks at its faulty places, and below each line what is told of it.
@@ -122,12 +120,11 @@ pub(crate) fn push_listing(
     out: &mut String,
     text: &[u8],
     diagnosis: &Diagnosis,
-    told: &str,
+    notes: &[Note],
 ) -> Result<(), AllocError> {
     let spans = spans_of(alloc, text, diagnosis)?;
-    let notes = notes_of(alloc, diagnosis, told)?;
     out.push_str("<section>\n<h2>The program</h2>\n")?;
     out.push_str("<pre class=\"listing\" tabindex=\"0\"><span class=\"line\">")?;
-    push_marked(out, text, &spans, &notes)?;
+    push_marked(out, text, &spans, notes)?;
     out.push_str("</span></pre>\n</section>\n")
 }

@@ -9,6 +9,7 @@ use crate::drawings::graphs::graph_of;
 use crate::drawings::html::{push_first_line, push_html};
 use crate::drawings::listing::push_listing;
 use crate::drawings::style::STYLE;
+use crate::sentences::Told;
 use chr_diagnosis::{Diagnosis, Peak, Proposal};
 use chr_faults::{Names, TextFaults};
 use chr_read::Fault;
@@ -101,7 +102,7 @@ fn push_peak(
     text: &[u8],
     peak: &Peak,
     proposals: &[Proposal],
-    told: &str,
+    told: &Told,
 ) -> Result<(), AllocError> {
     let names = Names::of(alloc, text)?;
     let ways = cards_of(alloc, &names, peak)?;
@@ -140,25 +141,26 @@ fn push_shut_words(out: &mut String, told: &str) -> Result<(), AllocError> {
     out.push_str("</pre>\n</details>\n")
 }
 
-/// What is to be told of a text, in these words, as a page.
+/// What is to be told of a text, as a page.
 pub(crate) fn page_text(
     alloc: Global,
     text: &[u8],
     diagnosis: &Diagnosis,
     proposals: &[Proposal],
-    told: &str,
+    told: &Told,
 ) -> Result<String, AllocError> {
+    let words = told.text.as_str();
     let mut out = String::new(alloc);
-    push_head(&mut out, diagnosis, told)?;
-    push_listing(alloc, &mut out, text, diagnosis, told)?;
+    push_head(&mut out, diagnosis, words)?;
+    push_listing(alloc, &mut out, text, diagnosis, &told.notes)?;
     match diagnosis {
-        Diagnosis::Text(_) => push_shut_words(&mut out, told)?,
+        Diagnosis::Text(_) => push_shut_words(&mut out, words)?,
         Diagnosis::Fails(peak) => {
             push_peak(alloc, &mut out, text, peak, proposals, told)?;
-            push_shut_words(&mut out, told)?;
+            push_shut_words(&mut out, words)?;
         }
         _ => {
-            push_words(&mut out, told)?;
+            push_words(&mut out, words)?;
             push_pictures(alloc, &mut out, text, diagnosis)?;
         }
     }

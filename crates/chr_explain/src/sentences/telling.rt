@@ -1,17 +1,19 @@
 //! What is to be told of a text, as text.
 
-use crate::crowd_text::push_throng;
-use crate::judged_text::{by_option, push_judged};
-use crate::limits::MAX_TOLD_PAIRS;
-use crate::pairs::{ToldPair, pairs_of, push_numbers};
-use crate::peak_text::push_peak;
-use crate::proposal_text::push_proposals;
-use crate::weighing_text::{push_cycle, push_found};
-use crate::weight_text::{can_lower, push_lowering, push_weights};
+use crate::sentences::beside_text::push_beside;
+use crate::sentences::crowd_text::push_throng;
+use crate::sentences::judged_text::{by_option, push_judged};
+use crate::sentences::limits::MAX_TOLD_PAIRS;
+use crate::sentences::pairs::{ToldPair, pairs_of, push_numbers};
+use crate::sentences::peak_text::{advice_of, push_peak};
+use crate::sentences::proposal_text::{kept_of, push_proposals};
+use crate::sentences::told::Told;
+use crate::sentences::weighing_text::{push_cycle, push_found};
+use crate::sentences::weight_text::{can_lower, push_lowering, push_weights};
 use chr_diagnosis::{
-    Census, Diagnosis, Judged, NamedProgram, Proposal, ToldRule, Unlowered, told_rule,
+    Census, Diagnosis, Judged, NamedProgram, Peak, Proposal, Throng, ToldRule, Unlowered, told_rule,
 };
-use chr_faults::{Names, faults_told};
+use chr_faults::{Names, TextFaults, faults_told, notes_of};
 use chr_join::Coverage;
 use chr_overlaps::cases::MAX_TYPES;
 use chr_weighing::{MAX_SEARCH_STEPS, Weighing};
@@ -108,6 +110,7 @@ fn push_census(
     all: bool,
 ) -> Result<(), AllocError> {
     out.push_str("Every store comes to one end, in whatever order the rules are applied.\n")?;
+    push_beside(alloc, out, census.accepted.weighed())?;
     let pairs = pairs_of(alloc, &census.counts)?;
     if !all && MAX_TOLD_PAIRS < pairs.len() {
         return Ok(write!(
@@ -129,34 +132,35 @@ fn push_pair(out: &mut String, pair: &ToldPair, coverage: Coverage) -> Result<()
     out.push_str("\n")
 }
 
-/// Tells of a program, of all pairs of rules where `all`.
+/// Tells of an overlap with too many combinations of values.
+fn push_throng_of(
+    alloc: Global,
+    out: &mut String,
+    names: &Names,
+    judged: &Judged,
+    throng: &Throng,
+) -> Result<(), AllocError> {
+    let by = by_option(judged.coverage);
+    write!(
+        out,
+        "refused 22{by}: an overlap has more than {MAX_TYPES} combinations of values\n"
+    )?;
+    push_judged(out, judged)?;
+    push_throng(alloc, out, names, throng)
+}
+
+/// Tells of a program none of whose cases is known to fail, of all pairs of rules where `all`.
 fn push_program(
     alloc: Global,
     out: &mut String,
     names: &Names,
     judged: &Judged,
-    proposals: &[Proposal],
     all: bool,
 ) -> Result<(), AllocError> {
     match &judged.diagnosis {
-        Diagnosis::Text(_) => Ok(()),
+        Diagnosis::Text(_) | Diagnosis::Fails(_) => Ok(()),
         Diagnosis::NotLowered(told) => push_unlowered(alloc, out, names, told),
-        Diagnosis::Fails(peak) => {
-            let by = by_option(judged.coverage);
-            write!(out, "refused 21{by}: one store comes to two ends\n")?;
-            push_judged(out, judged)?;
-            push_peak(alloc, out, names, peak)?;
-            push_proposals(alloc, out, judged.coverage, peak, proposals)
-        }
-        Diagnosis::TooManyCombinations(throng) => {
-            let by = by_option(judged.coverage);
-            write!(
-                out,
-                "refused 22{by}: an overlap has more than {MAX_TYPES} combinations of values\n"
-            )?;
-            push_judged(out, judged)?;
-            push_throng(alloc, out, names, throng)
-        }
+        Diagnosis::TooManyCombinations(throng) => push_throng_of(alloc, out, names, judged, throng),
         Diagnosis::Accepted(census) => {
             push_numbers_of(out, census)?;
             push_judged(out, judged)?;
@@ -165,30 +169,89 @@ fn push_program(
     }
 }
 
-/// What is to be told of the program of a text, of all pairs of rules where `all`.
+/// What is to be told of a program none of whose cases is known to fail, of all pairs of rules where `all`.
 fn program_told(
     alloc: Global,
     text: &[u8],
     judged: &Judged,
-    proposals: &[Proposal],
     all: bool,
-) -> Result<String, AllocError> {
+) -> Result<Told, AllocError> {
     let names = Names::of(alloc, text)?;
-    let mut out = String::new(alloc);
-    push_program(alloc, &mut out, &names, judged, proposals, all)?;
-    Ok(out)
+    let mut told = String::new(alloc);
+    push_program(alloc, &mut told, &names, judged, all)?;
+    Ok(Told {
+        text: told,
+        notes: Vec::new(alloc),
+        advice: Vec::new(alloc),
+        kept: Vec::new(alloc),
+    })
+}
+
+/// Tells of a case that fails, and of what can be done but for what is proposed.
+fn push_failing(
+    alloc: Global,
+    out: &mut String,
+    names: &Names,
+    judged: &Judged,
+    peak: &Peak,
+    advice: &[&'static str],
+) -> Result<(), AllocError> {
+    let by = by_option(judged.coverage);
+    write!(out, "refused 21{by}: one store comes to two ends\n")?;
+    push_judged(out, judged)?;
+    push_peak(alloc, out, names, peak)?;
+    for sentence in advice {
+        out.push_str(sentence)?;
+        out.push_str("\n")?;
+    }
+    Ok(())
+}
+
+/// What is to be told of a program of which a case fails.
+fn peak_told(
+    alloc: Global,
+    text: &[u8],
+    judged: &Judged,
+    peak: &Peak,
+    proposals: &[Proposal],
+) -> Result<Told, AllocError> {
+    let names = Names::of(alloc, text)?;
+    let advice = advice_of(alloc, &names, peak, proposals)?;
+    let kept = kept_of(alloc, peak, proposals)?;
+    let mut told = String::new(alloc);
+    push_failing(alloc, &mut told, &names, judged, peak, &advice)?;
+    push_proposals(&mut told, judged.coverage, proposals, &kept)?;
+    Ok(Told {
+        text: told,
+        notes: Vec::new(alloc),
+        advice,
+        kept,
+    })
+}
+
+/// What is to be told of a text that is no program.
+fn faulty_told(alloc: Global, text: &[u8], faults: &TextFaults) -> Result<Told, AllocError> {
+    let notes = notes_of(alloc, text, faults)?;
+    let told = faults_told(alloc, text, faults, &notes)?;
+    Ok(Told {
+        text: told,
+        notes,
+        advice: Vec::new(alloc),
+        kept: Vec::new(alloc),
+    })
 }
 
 /// What is to be told of a text, of all pairs of rules where `all`.
-pub fn told_text(
+pub(crate) fn told_text(
     alloc: Global,
     text: &[u8],
     judged: &Judged,
     proposals: &[Proposal],
     all: bool,
-) -> Result<String, AllocError> {
+) -> Result<Told, AllocError> {
     match &judged.diagnosis {
-        Diagnosis::Text(faults) => faults_told(alloc, text, faults),
-        _ => program_told(alloc, text, judged, proposals, all),
+        Diagnosis::Text(faults) => faulty_told(alloc, text, faults),
+        Diagnosis::Fails(peak) => peak_told(alloc, text, judged, peak, proposals),
+        _ => program_told(alloc, text, judged, all),
     }
 }

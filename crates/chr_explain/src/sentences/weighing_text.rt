@@ -1,6 +1,6 @@
 //! Weights of all symbols, and rules that show that there are none, as they are told.
 
-use crate::weight_text::push_weight_clause;
+use crate::sentences::weight_text::push_weight_clause;
 use chr_base::atom::SymbolId;
 use chr_base::program::Program;
 use chr_base::weight::DEFAULT_WEIGHT;

@@ -1,7 +1,7 @@
 //! An overlap with too many cases, as text.
 
-use crate::overlap_text::{ToldOverlap, told_overlap};
-use crate::symbol_text::push_symbol;
+use crate::sentences::overlap_text::{ToldOverlap, told_overlap};
+use crate::sentences::symbol_text::push_symbol;
 use chr_base::atom::SymbolId;
 use chr_base::limits::MAX_ARITY;
 use chr_base::program::Program;
@@ -31,7 +31,7 @@ pub(crate) fn push_throng(
 }
 
 /// Whether a symbol stands in a head of the rule.
-pub fn has_head(rule: &Rule, symbol: SymbolId) -> bool {
+pub(crate) fn has_head(rule: &Rule, symbol: SymbolId) -> bool {
     for place in 0..rule.places() {
         if rule.head_at(place).symbol == symbol {
             return true;
@@ -55,7 +55,7 @@ fn push_compared(alloc: Global, out: &mut String, told: ToldOverlap<'_>) -> Resu
 }
 
 /// Which columns of a symbol are compared by order, and which by equality, each kind after a semicolon.
-pub fn columns_text(
+pub(crate) fn columns_text(
     alloc: Global,
     program: &Program,
     sorting: &Sorting,

@@ -6,7 +6,7 @@ use std::alloc::AllocError;
 use std::fmt::Write;
 
 /// Adds the name and the number of arguments of a symbol of the program.
-pub fn push_symbol(
+pub(crate) fn push_symbol(
     out: &mut String,
     program: &Program,
     symbol: SymbolId,

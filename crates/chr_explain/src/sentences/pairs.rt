@@ -7,7 +7,7 @@ use std::fmt::Write;
 
 /// Two rules, or a rule twice, with the numbers of their overlaps and of the cases of these.
 #[derive(Clone, Copy, Debug, PartialEq, Eq)]
-pub struct ToldPair {
+pub(crate) struct ToldPair {
     pub first: u32,
     pub second: u32,
     pub overlaps: usize,
@@ -31,7 +31,7 @@ impl ToldPair {
     }
 
     /// Both pairs together, as the first one.
-    pub fn plus(self, other: &ToldPair) -> ToldPair {
+    pub(crate) fn plus(self, other: &ToldPair) -> ToldPair {
         ToldPair {
             overlaps: self.overlaps.saturating_add(other.overlaps),
             cases: self.cases.saturating_add(other.cases),
@@ -50,7 +50,7 @@ impl ToldPair {
 }
 
 /// The pairs of rules that overlap, in the order of their overlaps.
-pub fn pairs_of(alloc: Global, counts: &[Counted]) -> Result<Vec<ToldPair>, AllocError> {
+pub(crate) fn pairs_of(alloc: Global, counts: &[Counted]) -> Result<Vec<ToldPair>, AllocError> {
     let mut pairs = Vec::new(alloc);
     for counted in counts {
         let pair = match pairs.pop() {
@@ -67,7 +67,7 @@ pub fn pairs_of(alloc: Global, counts: &[Counted]) -> Result<Vec<ToldPair>, Allo
 }
 
 /// Adds the numbers of a pair: that of its cases where joint ones were looked at, since sorted ones are not counted.
-pub fn push_numbers(
+pub(crate) fn push_numbers(
     out: &mut String,
     pair: &ToldPair,
     coverage: Coverage,

@@ -1,4 +1,4 @@
 //! How much is told of an accepted program.
 
 /// How many pairs of rules are told where not all are asked for.
-pub const MAX_TOLD_PAIRS: usize = 20;
+pub(crate) const MAX_TOLD_PAIRS: usize = 20;

@@ -46,11 +46,11 @@ struct Choice<'a> {
 /// Adds the smallest store that a proposal alone keeps, where there is one.
 fn push_kept(
     alloc: Global,
-    out: &mut String,
+    kept: &mut Vec<String>,
     choice: Choice<'_>,
     proposal: &Proposal,
     copies: bool,
-) -> Result<bool, AllocError> {
+) -> Result<(), AllocError> {
     let found = kept_alone(
         alloc,
         choice.peak,
@@ -59,45 +59,39 @@ fn push_kept(
         proposal,
         copies,
     )?;
-    let Some(store) = found else {
-        return Ok(false);
-    };
-    out.push_str(kept_as(copies))?;
-    push_store(alloc, out, choice.peak.weighed.program(), &store)?;
-    out.push_str("\n")?;
-    Ok(true)
+    if let Some(store) = found {
+        let mut sentence = String::new(alloc);
+        sentence.push_str(kept_as(copies))?;
+        push_store(alloc, &mut sentence, choice.peak.weighed.program(), &store)?;
+        kept.push(sentence)?;
+    }
+    Ok(())
 }
 
-/// Adds a proposal, and what it alone keeps.
-fn push_proposal(
+/// What a proposal alone keeps.
+fn kept_by(
     alloc: Global,
-    out: &mut String,
     choice: Choice<'_>,
     proposal: &Proposal,
-) -> Result<(), AllocError> {
-    write!(out, " with this in place of rule {}:\n", proposal.rule)?;
-    push_lines(out, proposal.rules.as_str())?;
-    let apart = push_kept(alloc, out, choice, proposal, false)?;
-    let twice = push_kept(alloc, out, choice, proposal, true)?;
-    out.push_str(if apart || twice {
-        ""
-    } else {
-        "No small store is kept by this one alone.\n"
-    })
+) -> Result<Vec<String>, AllocError> {
+    let mut kept = Vec::new(alloc);
+    push_kept(alloc, &mut kept, choice, proposal, false)?;
+    push_kept(alloc, &mut kept, choice, proposal, true)?;
+    if kept.is_empty() {
+        kept.push(format!(in alloc; "No small store is kept by this one alone.")?)?;
+    }
+    Ok(kept)
 }
 
-/// Tells with which rules a program is accepted by these cases.
-pub(crate) fn push_proposals(
+/// What each of these proposals alone keeps.
+pub(crate) fn kept_of(
     alloc: Global,
-    out: &mut String,
-    coverage: Coverage,
     peak: &Peak,
     proposals: &[Proposal],
-) -> Result<(), AllocError> {
+) -> Result<Vec<Vec<String>>, AllocError> {
+    let mut all = Vec::new(alloc);
     if proposals.is_empty() {
-        return out.push_str(
-            "No change of one rule was found with which the program is accepted.\n",
-        );
+        return Ok(all);
     }
     let small = SmallStores::of(alloc, peak)?;
     let choice = Choice {
@@ -105,9 +99,33 @@ pub(crate) fn push_proposals(
         small: &small,
         proposals,
     };
-    for (i, proposal) in proposals.iter().enumerate() {
+    for proposal in proposals {
+        all.push(kept_by(alloc, choice, proposal)?)?;
+    }
+    Ok(all)
+}
+
+/// Adds a proposal, and what it alone keeps.
+fn push_proposal(out: &mut String, proposal: &Proposal, kept: &[String]) -> Result<(), AllocError> {
+    write!(out, " with this in place of rule {}:\n", proposal.rule)?;
+    push_lines(out, proposal.rules.as_str())?;
+    for sentence in kept {
+        out.push_str(sentence.as_str())?;
+        out.push_str("\n")?;
+    }
+    Ok(())
+}
+
+/// Tells with which rules a program is accepted by these cases, and what each of them alone keeps.
+pub(crate) fn push_proposals(
+    out: &mut String,
+    coverage: Coverage,
+    proposals: &[Proposal],
+    kept: &[Vec<String>],
+) -> Result<(), AllocError> {
+    for (i, (proposal, kept)) in proposals.iter().zip(kept.iter()).enumerate() {
         out.push_str(if i == 0 { beginning(coverage) } else { "Or" })?;
-        push_proposal(alloc, out, choice, proposal)?;
+        push_proposal(out, proposal, kept)?;
     }
     Ok(())
 }

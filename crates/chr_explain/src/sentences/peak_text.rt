@@ -1,19 +1,26 @@
 //! A case that fails, as text.
 
-use crate::overlap_text::{ToldOverlap, told_overlap};
+use crate::sentences::overlap_text::{ToldOverlap, told_overlap};
 use chr_base::bag::Bag;
 use chr_base::derivation::Derivation;
 use chr_base::program::Program;
 use chr_base::text::push_store;
-use chr_diagnosis::{NamedProgram, Peak, Ways, told_rule};
+use chr_diagnosis::{NamedProgram, Peak, Proposal, Ways, told_rule};
 use chr_faults::Names;
 use chr_join::Failure;
 use std::alloc::{AllocError, Global};
 use std::fmt::Write;
 
-/// What stands behind a case in which two facts compete for a third one.
+/// What can be done of any case.
+const ADVICE: &str =
+    "Add a rule that takes one end to the other, or write a guard under which only one of the two steps is possible.";
+
+/// What can be done of a case in which two facts compete for a third one.
 const COMPETITION: &str =
-    "Two facts want one that is there once: let it name which, or tell by a number who comes first ('Reservations' in docs/GUIDE.md).\n";
+    "Two facts want one that is there once: let it name which, or tell by a number who comes first ('Reservations' in docs/GUIDE.md).";
+
+/// What is told where nothing is proposed.
+const NO_CHANGE: &str = "No change of one rule was found with which the program is accepted.";
 
 /// Adds the steps of one side, a line for each, and its end.
 fn push_side(
@@ -147,13 +154,33 @@ pub(crate) fn push_peak(
     if peak.smaller.is_some() {
         push_first(alloc, out, program, &peak.first.failure)?;
     }
-    out.push_str("Two replicas that took these rules in another order would disagree for ever.\n")?;
-    out.push_str(
-        "Add a rule that takes one end to the other, or write a guard under which only one of the two steps is possible.\n",
-    )?;
-    out.push_str(if told.is_competition() {
-        COMPETITION
-    } else {
-        ""
-    })
+    out.push_str("Two replicas that took these rules in another order would disagree for ever.\n")
+}
+
+/// Whether two facts compete for a third one in the case that is shown.
+fn is_competition(names: &Names, peak: &Peak) -> bool {
+    let program = peak.weighed.program();
+    let source = NamedProgram { program, names };
+    match told_overlap(source, &peak.shown().failure.overlap) {
+        Some(told) => told.is_competition(),
+        None => false,
+    }
+}
+
+/// What a person can do where a case fails, but for what is proposed.
+pub(crate) fn advice_of(
+    alloc: Global,
+    names: &Names,
+    peak: &Peak,
+    proposals: &[Proposal],
+) -> Result<Vec<&'static str>, AllocError> {
+    let mut advice = Vec::new(alloc);
+    advice.push(ADVICE)?;
+    if is_competition(names, peak) {
+        advice.push(COMPETITION)?;
+    }
+    if proposals.is_empty() {
+        advice.push(NO_CHANGE)?;
+    }
+    Ok(advice)
 }
