@@ -1,5 +1,5 @@
 //! Two manners of sending: nothing at all, and what is held before the peer is waited for.
-ghost use Rattle.std.specs.Prelude.{◌≡◌, ℕ, List, [], OnOk, OnErr, string_bytes};
+ghost use Rattle.std.specs.Prelude.{◌≡◌, ◌<◌, ◌⊎◌, ℕ, List, [], length, OnOk, OnErr, string_bytes};
 ghost use Rattle.chr_device.specs.Devices.{AppendsPart};
 ghost use Rattle.chr_run.specs.Answered.{Moves};
 ghost use Rattle.chr_run.specs.Ends.{Ends};
@@ -14,6 +14,8 @@ pub struct HoldsAll;
 
 impl<P: Peer> Sink<P> for HoldsAll {
     ghost is_settled = { λ _ _. Unit {0} };
+
+    ghost is_short = { λ _ _. Unit {0} };
 
     fn offer(&mut self, _peer: &mut P, _held: &mut String) -> Result<(), RunFault> {
         Ok(())
@@ -50,6 +52,8 @@ fn send_all<T: Wire>(wire: &mut T, held: &mut String) -> Result<(), RunFault>
 
 impl<T: Wire> Sink<T> for SendsPromptly {
     ghost is_settled = { λ _ held. held ≡ [] };
+
+    ghost is_short = { λ s held. (length held < s.most) ⊎ (held ≡ []) };
 
     fn offer(&mut self, wire: &mut T, held: &mut String) -> Result<(), RunFault> {
         if held.len() < self.most {

@@ -12,4 +12,4 @@ dots_both (x ∷ xs) b = ap (λ l. 46 ∷ l) (dots_both xs b)
 
 -- what answers a front and what answers the rest answer both
 pub dots_join : (a b : List ℕ) {x y : List ℕ} → x ≡ dots a → y ≡ dots b → x ++ y ≡ dots (a ++ b)
-dots_join a b {x} e f = ap (λ l. l ++ _) e ∙ ap (λ l. dots a ++ l) f ∙ dots_both a b
+dots_join a b {x} {y} e f = ap (λ l. l ++ y) e ∙ ap (λ l. dots a ++ l) f ∙ dots_both a b
