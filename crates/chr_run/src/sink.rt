@@ -9,8 +9,8 @@ use chr_device::RunFault;
 
 /// A manner of sending answers to a peer.
 pub trait Sink<P: Peer> {
-    // When nothing of a text that is held has to be sent before the peer is waited for; and when nothing of it has to be
-    // sent before more is answered.
+    // When nothing of a text that is held has to be sent before the peer is waited for; and when nothing of it has to
+    // be sent before more is answered.
     ghost is_settled: { Self → List ℕ → Type 0 };
 
     ghost is_short: { Self → List ℕ → Type 0 };

@@ -16,13 +16,15 @@ impl Cut for AtFeeds {
     ghost AreWhole = { λ _. Unit {0} };
 
     fn whole_len(&self, bytes: &[u8]) -> usize {
-        let mut whole = 0;
-        for (place, byte) in bytes.iter().enumerate() {
+        let mut whole = 0usize;
+        let mut place = 0usize;
+        for byte in bytes {
+            place = place.saturating_add(1);
             if *byte == b'\n' {
-                whole = place + 1;
+                whole = place;
             }
         }
-        whole
+        whole.min(bytes.len())
     }
 }
 

@@ -1,5 +1,5 @@
 //! Readers and wires that give little, and wires that hang up.
-ghost use Rattle.std.specs.Prelude.{◌≤◌, None, length};
+ghost use Rattle.std.specs.Prelude.{◌≡◌, ◌≤◌, None, false, length};
 
 use chr_device::RunFault;
 use chr_run::{Peer, Wire};
@@ -61,7 +61,9 @@ fn feeds(bytes: &[u8]) -> usize {
 
 impl<'a> Line<'a> {
     /// Gives at most so many bytes a wait. What it is sent goes to the room.
-    pub(crate) fn new(rest: &'a [u8], most: usize, hangs_up: u64, room: Vec<u8>) -> Line<'a> {
+    pub(crate) fn new(rest: &'a [u8], most: usize, hangs_up: u64, room: Vec<u8>) -> Line<'a>
+        ensures { result.failed ≡ false }
+    {
         Line {
             rest,
             most,
@@ -75,7 +77,9 @@ impl<'a> Line<'a> {
     }
 
     /// Counts a call, and says whether it hangs up.
-    fn hangs_up_now(&mut self) -> bool {
+    fn hangs_up_now(&mut self) -> bool
+        ensures { self.new.failed ≡ self.old.failed }
+    {
         self.calls = self.calls.saturating_add(1);
         self.calls == self.hangs_up
     }
