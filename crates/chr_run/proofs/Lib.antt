@@ -1,0 +1,4 @@
+pub mod Moving
+pub mod Batches
+pub mod Inputs
+pub mod Outputs

@@ -1,0 +1,2 @@
+-- Words of private contracts alone.
+pub mod Batches
