@@ -8,31 +8,30 @@ ghost use Rattle.chr_join.specs.AcceptedPrograms.{program_in};
 ghost use Rattle.chr_base.specs.Programs.{declarations, rules_of};
 ghost use Rattle.chr_json.specs.Reads.{HasIds};
 ghost use Rattle.chr_replica.specs.Replicas.{IsDeclared};
-ghost use Rattle.chr_worlds.specs.Worlds.{Happens};
 ghost use Rattle.chr_base.specs.declared.limits.TheConstants.{MAX_REPLICAS};
 ghost use Rattle.chr_report.specs.Answers.{AnswersBetween, AnswersLacks, AnswersMerge, AnswersShow, AnswersSummary};
 ghost use Rattle.chr_report.specs.Answers.{AnswersTell};
 ghost use Rattle.chr_report.specs.working.Gathered.{AreRested};
-ghost use Rattle.chr_report.specs.working.Obeying.{HoldsMore, IsAnswered, IsAnsweredAt, ShowsFrom};
+ghost use Rattle.chr_report.specs.working.Obeying.{HoldsMore, IsAnswered, IsAnsweredAt, IsReadyFor, ShowsFrom};
 ghost use Rattle.chr_report.specs.working.Requests.{AnswersRequest, FitsProgram};
 ghost use Rattle.chr_report.specs.working.Services.{held, served, was_stopped};
-ghost use Rattle.chr_report.specs.working.Services.{AreAtRest, AreIdle, HasLongRanges, IsBetweenLines};
+ghost use Rattle.chr_report.specs.working.Services.{AreAtRest, AreIdle, IsBetweenLines};
 
 use crate::gathering::Tells;
 use crate::promptly::promptly;
 use crate::readers::Readers;
-use crate::reply::Reply;
+use crate::reply::{Refusal, Reply, text_of_delta};
 use crate::request::Request;
 use crate::resting::tell_replica;
 use crate::sharing::Sharing;
-use chr_acts::{Act, Reply as ActReply};
 use chr_base::program::Program;
+use chr_exchange::lacked_ids_differ;
 use chr_join::Accepted;
 use chr_json::DeltaVersion;
 use chr_ops::{IdRange, Op, Summary};
 use chr_replica::laws::events_keep_replicas_sound;
 use chr_worlds::laws::runs_keep_replicas_sound;
-use chr_worlds::{Answer, Event, World};
+use chr_worlds::{NotSettled, World};
 use std::alloc::{AllocError, Global};
 use std::sync::{Arc, Wait};
 use std::thread::Threads;
@@ -82,20 +81,10 @@ pub(crate) struct Service {
 }
 
 /// Whether memory was refused to a pool's rest.
-fn was_stopped(answer: &Answer) -> bool
-    ensures { result ≡ was_stopped answer.now }
+fn was_stopped(settled: &Result<u64, NotSettled>) -> bool
+    ensures { result ≡ was_stopped settled.now }
 {
-    matches!(answer, Answer::Replied(ActReply::Stopped(_)))
-}
-
-/// The ranges of a summary that is answered are as long as possible, as its type keeps. It does nothing but look into
-/// the answer, for its contract.
-fn look_into(answer: &Answer)
-    ensures { HasLongRanges answer.now }
-{
-    if let Answer::Replied(ActReply::Summed(summary)) = answer {
-        let _ranges = summary.ranges();
-    }
+    matches!(settled, Err(NotSettled::Stopped(_)))
 }
 
 /// The place of a replica's number in a list, if any list is as long.
@@ -252,8 +241,8 @@ impl Service {
         ensures rests { OnOk result (AreIdle self.old replica → AreAtRest self.new replica) }
     {
         runs_keep_replicas_sound();
-        let answer = self.world.settle(replica);
-        if was_stopped(&answer) {
+        let settled = self.world.settle(replica);
+        if was_stopped(&settled) {
             return Err(AllocError);
         }
         self.note_waiting(replica, 0);
@@ -402,9 +391,9 @@ impl Service {
         ensures answered { IsAnsweredAt self.old self.new replica (AnswersTell op) result }
     {
         runs_keep_replicas_sound();
-        let answer = self.world.tell(alloc, replica, op)?;
+        let told = self.world.tell(alloc, replica, op)?;
         self.rest_many(rt, alloc, replica, Coming::LineByLine)?;
-        Ok(Reply::Answered(answer))
+        Ok(Reply::told(told))
     }
 
     /// Tells a replica operations that were rested by the thread that read them, where there is that replica and all of
@@ -449,9 +438,9 @@ impl Service {
         ensures answered { IsAnsweredAt self.old self.new replica (AnswersMerge ops.items) result }
     {
         runs_keep_replicas_sound();
-        let answer = self.world.merge(alloc, replica, &ops)?;
+        let merged = self.world.merge(alloc, replica, &ops)?;
         self.rest_many(rt, alloc, replica, Coming::AtOnce)?;
-        Ok(Reply::Answered(answer))
+        Ok(Reply::merged(merged))
     }
 
     /// Gives a replica what another holds and it lacks.
@@ -467,43 +456,26 @@ impl Service {
         ensures answered { IsAnswered self.old self.new (λ held. AnswersBetween held from to) result }
     {
         runs_keep_replicas_sound();
-        let answer = self.world.sync(alloc, from, to)?;
+        let synced = self.world.sync(alloc, from, to)?;
         self.rest_many(rt, alloc, to, Coming::AtOnce)?;
-        Ok(Reply::Synced(answer))
+        Ok(Reply::synced(synced))
     }
 
-    /// A replica's pool, which several threads put in order where several workers are asked for.
-    fn shown<R: Threads + Wait + Sync>(
+    /// Shows a replica's pool at rest, which as many threads at most put in order as workers are asked for.
+    fn show<R: Threads + Wait + Sync>(
         &self,
         rt: &R,
         alloc: Global,
         replica: u64,
-    ) -> Result<Answer, AllocError>
-        ensures { IfOk result (λ answer. Happens (served self.now) self.now.world.replicas
-            (Event.At replica Act.Show) answer self.now.world.replicas) }
-    {
-        if self.sharing.workers > 1 {
-            self.world.show_by(rt, alloc, replica)
-        } else {
-            self.world.show(alloc, replica)
-        }
-    }
-
-    /// Rests a replica's pool and shows it.
-    fn show<R: Threads + Wait + Sync>(
-        &mut self,
-        rt: &R,
-        alloc: Global,
-        replica: u64,
     ) -> Result<Reply, AllocError>
-        requires { IsBetweenLines self.old }
-        ensures ready { OnOk result (IsBetweenLines self.new) }
-        ensures answered { IsAnsweredAt self.old self.new replica
-            (AnswersShow (declarations (served self.old)) (rules_of (served self.old))) result }
+        requires ready { IsBetweenLines self.now }
+        requires rests { AreAtRest self.now replica }
+        ensures { IsAnsweredAt self.now self.now replica
+            (AnswersShow (declarations (served self.now)) (rules_of (served self.now))) result }
     {
-        self.settle(rt, alloc, replica)?;
-        let answer = self.shown(rt, alloc, replica)?;
-        Ok(Reply::Answered(answer))
+        let threads = self.sharing.workers as usize;
+        let shown = self.world.show(rt, alloc, replica, threads)?;
+        Ok(Reply::shown(shown))
     }
 
     /// Adds the text of a replica's pool at rest, where it can be written from its rows, by as many threads as workers
@@ -531,9 +503,13 @@ impl Service {
     fn summary(&self, alloc: Global, replica: u64) -> Result<Reply, AllocError>
         ensures { IsAnsweredAt self.now self.now replica AnswersSummary result }
     {
-        let answer = self.world.summary(alloc, replica)?;
-        look_into(&answer);
-        Ok(Reply::Answered(answer))
+        let found = self.world.summary(alloc, replica)?;
+        let Some(summary) = found else {
+            return Ok(Reply::Refused(Refusal::NoReplica));
+        };
+        // Its type keeps that the ranges are as long as possible.
+        let _ranges = summary.ranges();
+        Ok(Reply::Summed(summary))
     }
 
     /// Tells a replica's operations whose ids the ranges don't cover.
@@ -548,12 +524,17 @@ impl Service {
         ensures { IsAnsweredAt self.now self.now replica
             (AnswersLacks (declarations (served self.now)) ranges.items version) result }
     {
+        lacked_ids_differ();
         let summary = Summary::of(ranges)?;
-        let answer = self.world.lacks(alloc, replica, &summary)?;
-        Ok(Reply::Lacked(version, answer))
+        let found = self.world.lacks(alloc, replica, &summary)?;
+        let Some(ops) = found else {
+            return Ok(Reply::Refused(Refusal::NoReplica));
+        };
+        let text = text_of_delta(alloc, self.program(), version, &ops)?;
+        Ok(Reply::Lacked(text))
     }
 
-    /// Does what is asked for.
+    /// Does what is asked for. A replica that is to show its pool has been rested.
     pub(crate) fn obey<R: Threads + Wait + Sync>(
         &mut self,
         rt: &R,
@@ -562,6 +543,7 @@ impl Service {
     ) -> Result<Reply, AllocError>
         requires ready { IsBetweenLines self.old }
         requires fits { FitsProgram (served self.old) request }
+        requires rests { IsReadyFor self.old request }
         ensures ready { OnOk result (IsBetweenLines self.new) }
         ensures answered { IsAnswered self.old self.new
             (λ held. AnswersRequest (declarations (served self.old)) (rules_of (served self.old)) held request)
