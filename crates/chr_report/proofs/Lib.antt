@@ -22,7 +22,6 @@ pub mod Merging
 pub mod Reading
 pub mod ShownPools
 pub mod Requests
-pub mod Writable
 pub mod OneTextValues
 pub mod OneText
 pub mod AnswersThere

@@ -1,7 +1,7 @@
 -- What a replica answers to a merge, and to an exchange.
 use Rattle.std.proofs.Common.{◌≡◌, ℕ, ◌+◌, ◌-◌, ◌≤◌, List, ◌++◌, All, codes, refl, sym, ap, ◌∙◌, subst, arith, inl, inr}
 use Rattle.std.proofs.Common.{◌⊎◌}
-use Rattle.std.specs.Prelude.{MatchOption}
+use Rattle.std.specs.Prelude.{MatchOption, Result, Ok, Err}
 use Rattle.std.specs.Fmt.{decimal}
 use Rattle.std.specs.FinMap as map
 use Rattle.chr_base.specs.declared.program.Program.{Program}
@@ -13,24 +13,24 @@ use Rattle.chr_ops.specs.Joins.{union}
 use Rattle.chr_ops.specs.Summaries.{CoversJust, lacking}
 use Rattle.chr_ops.proofs.Lacked.{exchange, no_clash}
 use Rattle.chr_base.specs.Programs.{declarations}
-use Rattle.chr_json.specs.declared.command.DeltaVersion.{DeltaVersion}
-use Rattle.chr_json.specs.declared.command.DeltaVersion.TheVariants as version
+use Rattle.chr_replica.specs.Refusals.{refusal_number}
+use Rattle.chr_replica.specs.declared.refusal.Refusal.{Refusal}
 use Rattle.chr_replica.specs.declared.refusal.Refusal.TheVariants as refused
 use Rattle.chr_replica.specs.declared.refusal.Limit.TheVariants as limit
 use Rattle.chr_replica.specs.Replicas.{Replica, IsDeclared}
 use Rattle.chr_acts.specs.declared.act.Act.TheVariants as act
-use Rattle.chr_acts.specs.declared.reply.Reply.{Reply}
 use Rattle.chr_acts.specs.declared.reply.Reply.TheVariants as reply
 use Rattle.chr_acts.specs.Events.{Does}
 use Rattle.chr_worlds.specs.Worlds.{Replicas, IsAt, HasReplica, Happens}
 use Rattle.chr_worlds.specs.declared.event.Event.TheVariants as event
-use Rattle.chr_worlds.specs.declared.answer.Answer.{Answer}
-use Rattle.chr_worlds.specs.declared.answer.Answer.TheVariants as answer
+use Rattle.chr_worlds.specs.declared.refusal.WorldRefusal.{WorldRefusal}
+use Rattle.chr_worlds.specs.declared.refusal.WorldRefusal.TheVariants as denied
+use Rattle.chr_worlds.specs.Answers.{merged_answer}
 use Rattle.chr_report.specs.declared.reply.Refusal.TheVariants as refusal
 use Rattle.chr_report.specs.Replies.{refusal_text}
 use Rattle.chr_report.specs.Answers.{AnswersRefusal, AnswersMerge, AnswersUnion, AnswersSync, AnswersAt, AnswersBetween}
-use Rattle.chr_report.specs.declared.reply.Reply.TheVariants as replies
-use Rattle.chr_report.specs.working.ReplyTexts.{replied_text, answer_text, reply_text}
+use Rattle.chr_report.specs.declared.reply.Reply.{Reply}
+use Rattle.chr_report.specs.working.ReplyTexts.{merged_reply, number_text, reply_text, synced_reply}
 use Rattle.chr_report.specs.working.Services.{operations_held, AreBetweenLines}
 use Rattle.chr_replica.proofs.DeclaredSets.{lacking_declared}
 use Rattle.chr_report.proofs.BetweenLines.{ready_at}
@@ -51,58 +51,70 @@ over : (word : List ℕ) (ops : List Operation) (old new : Operations) → ¬ (t
     → new ≡ old → AnswersUnion word ops old (refusal_text refusal.Full) new
 over word ops old new full e = record { full = λ _. (refl, e); joined = λ l. absurd (full l) }
 
-does_merge : (ds : List Declaration) (k : DeltaVersion) (p : Program) (s : Replica) (ops : List Operation) (x : Reply)
-    (t : Replica) → All (IsDeclared p) ops → Does p s (act.Merge ops) x t
-    → AnswersMerge ops s.operations (replied_text ds (codes "merged ") k x) t.operations
-does_merge ds k p s ops (reply.Merged n) t declared d = record {
+does_merge : (p : Program) (s : Replica) (ops : List Operation) (n : ℕ) (t : Replica)
+    → Does p s (act.Merge ops) (reply.Merged n) t
+    → AnswersMerge ops s.operations (codes "merged " ++ decimal n) t.operations
+does_merge p s ops n t d = record {
   clash = λ i id h. absurd (d.no_clash i id h);
   unites = λ _. joined (codes "merged ") ops s.operations t.operations n d.room d.count
       (ap (λ r. r.operations) d.after);
 }
-does_merge ds k p s ops (reply.Refused refused.UnknownSymbol) t declared d = absurd (d.0 declared)
-does_merge ds k p s ops (reply.Refused (refused.Clash id)) t declared d = record {
+
+-- of operations that are refused
+refuses_merge : (p : Program) (s : Replica) (ops : List Operation) (x : Refusal) (t : Replica)
+    → All (IsDeclared p) ops → Does p s (act.Merge ops) (reply.Refused x) t
+    → AnswersMerge ops s.operations (number_text (refusal_number x)) t.operations
+refuses_merge p s ops refused.UnknownSymbol t declared d = absurd (d.0 declared)
+refuses_merge p s ops (refused.Clash id) t declared d = record {
   clash = λ _ _ _. (refl, ap (λ r. r.operations) d.2);
   unites = λ none. absurd (none d.0.1.0 id d.0.1.1);
 }
-does_merge ds k p s ops (reply.Refused (refused.Full limit.Told)) t declared d = record {
+refuses_merge p s ops (refused.Full limit.Told) t declared d = record {
   clash = λ i id h. absurd (d.0.1 i id h);
   unites = λ _. over (codes "merged ") ops s.operations t.operations (λ l. let m = d.0.2 in omega (arith, l, m))
       (ap (λ r. r.operations) d.2);
 }
-does_merge ds k p s ops (reply.Refused refused.Memory) t declared d = absurd (d.1 refl)
-does_merge ds k p s ops (reply.Refused _) t declared d = absurd d.0
-does_merge ds k p s ops _ t declared d = absurd d
+refuses_merge p s ops refused.Memory t declared d = absurd (d.1 refl)
+refuses_merge p s ops _ t declared d = absurd d.0
 
 -- of operations whose atoms are declared
-pub merge_answers : (ds : List Declaration) (k : DeltaVersion) (p : Program) (w v : Replicas) (r : ℕ)
-    (ops : List Operation) (x : Answer) → All (IsDeclared p) ops → Happens p w (event.At r (act.Merge ops)) x v
-    → AnswersAt (operations_held w) r (AnswersMerge ops) (answer_text ds (codes "merged ") k x) (operations_held v)
-merge_answers ds k p w v r ops (answer.Replied x) declared h =
-    answers_at w v r (AnswersMerge ops) (replied_text ds (codes "merged ") k x) h.before h.after h.there h.world
-    (does_merge ds k p h.before ops x h.after declared h.changed)
-merge_answers ds k p w v r ops answer.UnknownSymbol declared h = absurd (h.1 declared)
-merge_answers ds k p w v r ops answer.NoReplica declared h = none_answers w v r (AnswersMerge ops) h.0 h.2
+pub merge_answers : (ds : List Declaration) (p : Program) (w v : Replicas) (r : ℕ) (ops : List Operation)
+    (x : Result ℕ WorldRefusal) → All (IsDeclared p) ops
+    → Happens p w (event.At r (act.Merge ops)) (merged_answer x) v
+    → AnswersAt (operations_held w) r (AnswersMerge ops) (reply_text ds (merged_reply x)) (operations_held v)
+merge_answers ds p w v r ops (Ok n) declared h =
+    answers_at w v r (AnswersMerge ops) (codes "merged " ++ decimal n) h.before h.after h.there h.world
+    (does_merge p h.before ops n h.after h.changed)
+merge_answers ds p w v r ops (Err (denied.Replica x)) declared h =
+    answers_at w v r (AnswersMerge ops) (number_text (refusal_number x)) h.before h.after h.there h.world
+    (refuses_merge p h.before ops x h.after declared h.changed)
+merge_answers ds p w v r ops (Err denied.UnknownSymbol) declared h = absurd (h.1 declared)
+merge_answers ds p w v r ops (Err denied.NoReplica) declared h = none_answers w v r (AnswersMerge ops) h.0 h.2
 
 -- what is lacked is merged
-does_sync : (ds : List Declaration) (k : DeltaVersion) (p : Program) (from : Operations) (t : Replica)
-    (rs : List IdRange) (x : Reply) (u : Replica) → CoversJust rs t.operations → All (IsDeclared p) (lacking from rs)
-    → Does p t (act.Merge (lacking from rs)) x u → AnswersSync from t.operations (replied_text ds (codes "synced ") k x)
-    u.operations
-does_sync ds k p from t rs (reply.Merged n) u just declared d =
+does_sync : (p : Program) (from : Operations) (t : Replica) (rs : List IdRange) (n : ℕ) (u : Replica)
+    → CoversJust rs t.operations → Does p t (act.Merge (lacking from rs)) (reply.Merged n) u
+    → AnswersSync from t.operations (codes "synced " ++ decimal n) u.operations
+does_sync p from t rs n u just d =
     let e = exchange t.operations from rs just in
     joined (codes "synced ") (map.entries from) t.operations u.operations n
     (subst (λ m. told_atoms m ≤ MAX_TOLD) e d.room) d.count (ap (λ r. r.operations) d.after ∙ e)
-does_sync ds k p from t rs (reply.Refused refused.UnknownSymbol) u just declared d = absurd (d.0 declared)
-does_sync ds k p from t rs (reply.Refused (refused.Clash id)) u just declared d =
+
+-- what is lacked is refused
+refuses_sync : (p : Program) (from : Operations) (t : Replica) (rs : List IdRange) (x : Refusal) (u : Replica)
+    → CoversJust rs t.operations → All (IsDeclared p) (lacking from rs)
+    → Does p t (act.Merge (lacking from rs)) (reply.Refused x) u
+    → AnswersSync from t.operations (number_text (refusal_number x)) u.operations
+refuses_sync p from t rs refused.UnknownSymbol u just declared d = absurd (d.0 declared)
+refuses_sync p from t rs (refused.Clash id) u just declared d =
     absurd (no_clash t.operations from rs just d.0.1.0 id d.0.1.1)
-does_sync ds k p from t rs (reply.Refused (refused.Full limit.Told)) u just declared d =
+refuses_sync p from t rs (refused.Full limit.Told) u just declared d =
     let e = exchange t.operations from rs just in
     over (codes "synced ") (map.entries from) t.operations u.operations
     (λ l. let m = d.0.2 in let l' = subst (λ m. told_atoms m ≤ MAX_TOLD) (sym e) l in omega (arith, l', m))
     (ap (λ r. r.operations) d.2)
-does_sync ds k p from t rs (reply.Refused refused.Memory) u just declared d = absurd (d.1 refl)
-does_sync ds k p from t rs (reply.Refused _) u just declared d = absurd d.0
-does_sync ds k p from t rs _ u just declared d = absurd d
+refuses_sync p from t rs refused.Memory u just declared d = absurd (d.1 refl)
+refuses_sync p from t rs _ u just declared d = absurd d.0
 
 between : (w : Replicas) (a b : ℕ) (s : Replica) (text : List ℕ) (new : List Operations) → IsAt w a s
     → AnswersAt (operations_held w) b (AnswersSync s.operations) text new
@@ -112,19 +124,23 @@ between w a b s text new there h =
     (λ from. AnswersAt (operations_held w) b (AnswersSync from) text new)) (sym (held_at w a s there)) h
 
 -- of replicas that hold declared atoms alone
-pub sync_answers : (ds : List Declaration) (k : DeltaVersion) (p : Program) (w v : Replicas) (a b : ℕ) (x : Answer)
+pub sync_answers : (ds : List Declaration) (p : Program) (w v : Replicas) (a b : ℕ) (x : Result ℕ WorldRefusal)
     → ((s : Replica) (rs : List IdRange) → IsAt w a s → All (IsDeclared p) (lacking s.operations rs))
-    → Happens p w (event.Sync a b) x v → AnswersBetween (operations_held w) a b (answer_text ds (codes "synced ") k x)
-    (operations_held v)
-sync_answers ds k p w v a b (answer.Replied x) declared h =
+    → Happens p w (event.Sync a b) (merged_answer x) v
+    → AnswersBetween (operations_held w) a b (reply_text ds (synced_reply x)) (operations_held v)
+sync_answers ds p w v a b (Ok n) declared h =
     let c = h.2 in
     between w a b h.0 _ _ h.1
-    (answers_at w v b (AnswersSync h.0.operations) (replied_text ds (codes "synced ") k x) c.before c.after c.there
-    c.world
-    (does_sync ds k p h.0.operations c.before c.changed.summary x c.after c.changed.covers
+    (answers_at w v b (AnswersSync h.0.operations) (codes "synced " ++ decimal n) c.before c.after c.there c.world
+    (does_sync p h.0.operations c.before c.changed.summary n c.after c.changed.covers c.changed.merged))
+sync_answers ds p w v a b (Err (denied.Replica x)) declared h =
+    let c = h.2 in
+    between w a b h.0 _ _ h.1
+    (answers_at w v b (AnswersSync h.0.operations) (number_text (refusal_number x)) c.before c.after c.there c.world
+    (refuses_sync p h.0.operations c.before c.changed.summary x c.after c.changed.covers
     (declared h.0 c.changed.summary h.1) c.changed.merged))
-sync_answers ds k p w v a b answer.UnknownSymbol declared h = absurd h
-sync_answers ds k p w v a b answer.NoReplica declared h = by (there_or_not w a)
+sync_answers ds p w v a b (Err denied.UnknownSymbol) declared h = absurd h
+sync_answers ds p w v a b (Err denied.NoReplica) declared h = by (there_or_not w a)
   where
     by : ((s : Replica) × IsAt w a s) ⊎ (¬ HasReplica w a) → AnswersBetween (operations_held w) a b
         (refusal_text refusal.NoReplica) (operations_held v)
@@ -138,21 +154,21 @@ sync_answers ds k p w v a b answer.NoReplica declared h = by (there_or_not w a)
         (refusal_text refusal.NoReplica) (operations_held v))) (sym (none_held w a n)) none
 
 -- of operations of the program's atoms, after which a pool may be rested
-pub merged : (p : Program) (w v : Replicas) (new : List Operations) (r : ℕ) (ops : List Operation) (x : Answer)
-    → All (IsDeclared p) ops
-    → Happens p w (event.At r (act.Merge ops)) x v → new ≡ operations_held v
-    → AnswersAt (operations_held w) r (AnswersMerge ops) (reply_text (declarations p) (replies.Answered x)) new
-merged p w v new r ops x declared h e =
-    let ds = declarations p in
-    subst (AnswersAt (operations_held w) r (AnswersMerge ops) (reply_text ds (replies.Answered x))) (sym e)
-    (merge_answers ds version.Two p w v r ops x declared h)
+pub merged : (p : Program) (w v : Replicas) (new : List Operations) (r : ℕ) (ops : List Operation)
+    (x : Result ℕ WorldRefusal) (y : Reply) → All (IsDeclared p) ops
+    → Happens p w (event.At r (act.Merge ops)) (merged_answer x) v → new ≡ operations_held v → y ≡ merged_reply x
+    → AnswersAt (operations_held w) r (AnswersMerge ops) (reply_text (declarations p) y) new
+merged p w v new r ops x y declared h e is =
+    subst (λ y. AnswersAt (operations_held w) r (AnswersMerge ops) (reply_text (declarations p) y) new) (sym is)
+    (subst (AnswersAt (operations_held w) r (AnswersMerge ops) (reply_text (declarations p) (merged_reply x))) (sym e)
+    (merge_answers (declarations p) p w v r ops x declared h))
 
 -- of ready replicas, after which a pool may be rested
-pub synced : (p : Program) (w v : Replicas) (new : List Operations) (a b : ℕ) (x : Answer) → AreBetweenLines p w
-    → Happens p w (event.Sync a b) x v → new ≡ operations_held v
-    → AnswersBetween (operations_held w) a b (reply_text (declarations p) (replies.Synced x)) new
-synced p w v new a b x ready h e =
-    let ds = declarations p in
-    subst (AnswersBetween (operations_held w) a b (reply_text ds (replies.Synced x))) (sym e)
-    (sync_answers ds version.Two p w v a b x (λ s rs there.
-    lacking_declared p s.operations rs (ready_at p w a s ready there).declared) h)
+pub synced : (p : Program) (w v : Replicas) (new : List Operations) (a b : ℕ) (x : Result ℕ WorldRefusal) (y : Reply)
+    → AreBetweenLines p w → Happens p w (event.Sync a b) (merged_answer x) v → new ≡ operations_held v
+    → y ≡ synced_reply x → AnswersBetween (operations_held w) a b (reply_text (declarations p) y) new
+synced p w v new a b x y ready h e is =
+    subst (λ y. AnswersBetween (operations_held w) a b (reply_text (declarations p) y) new) (sym is)
+    (subst (AnswersBetween (operations_held w) a b (reply_text (declarations p) (synced_reply x))) (sym e)
+    (sync_answers (declarations p) p w v a b x (λ s rs there.
+    lacking_declared p s.operations rs (ready_at p w a s ready there).declared) h))

@@ -1,6 +1,6 @@
 -- A replica that was rested.
 use Rattle.std.proofs.Common.{◌≡◌, ℕ, ◌-◌, false, sym, ap, ◌∙◌, subst}
-use Rattle.std.specs.Prelude.{Option, Some, slice_get}
+use Rattle.std.specs.Prelude.{Option, Some, Result, Ok, Err, slice_get}
 use Rattle.std.proofs.lemmas.Option.{slice_get_within}
 use mathlib.Core.Bool.{true≢false}
 use Rattle.chr_base.specs.declared.program.Program.{Program}
@@ -16,6 +16,9 @@ use Rattle.chr_worlds.specs.Worlds.{Replicas, IsAt, Happens}
 use Rattle.chr_worlds.specs.declared.event.Event.TheVariants as event
 use Rattle.chr_worlds.specs.declared.answer.Answer.{Answer}
 use Rattle.chr_worlds.specs.declared.answer.Answer.TheVariants as answer
+use Rattle.chr_worlds.specs.declared.refusal.NotSettled.{NotSettled}
+use Rattle.chr_worlds.specs.declared.refusal.NotSettled.TheVariants as unsettled
+use Rattle.chr_worlds.specs.Answers.{settled_answer}
 use Rattle.chr_report.specs.working.Services.{operations_held, was_stopped, IsIdle}
 use Rattle.chr_report.proofs.Held.{same_held, has_one}
 
@@ -34,30 +37,23 @@ settled_held p w v r (answer.Replied x) h = same_held w v r h.before h.after h.t
 settled_held p w v r answer.UnknownSymbol h = absurd h.1
 settled_held p w v r answer.NoReplica h = ap operations_held h.2
 
-does_rest : (p : Program) (s : Replica) (x : Reply) (t : Replica) → was_stopped (answer.Replied x) ≡ false
-    → Does p s act.Settle x t → IsIdle s → IsSettled p t
-does_rest p s (reply.Refused r) t went d idle = absurd d.0
-does_rest p s (reply.Settled n) t went d idle = (ap (λ r. r.out) d.0.after ∙ idle, d.1)
-does_rest p s (reply.Stopped n) t went d idle = absurd (true≢false went)
-does_rest p s _ t went d idle = absurd d
-
 -- and is at rest, where it was not stopped and no part was out
-pub settled_rests : (p : Program) (w v : Replicas) (r : ℕ) (x : Answer) → was_stopped x ≡ false
-    → Happens p w (event.At r act.Settle) x v → ((s : Replica) → IsAt w r s → IsIdle s)
+pub settled_rests : (p : Program) (w v : Replicas) (r : ℕ) (x : Result ℕ NotSettled) → was_stopped x ≡ false
+    → Happens p w (event.At r act.Settle) (settled_answer x) v → ((s : Replica) → IsAt w r s → IsIdle s)
     → (t : Replica) → IsAt v r t → IsSettled p t
-settled_rests p w v r (answer.Replied x) went h idle t there =
+settled_rests p w v r (Ok n) went h idle t there =
     let e : ◌≡◌ {A = Option Replica} (Some h.after) (Some t) =
     sym (slice_set_same w (r - 1) h.after (slice_get_within w (r - 1) h.before h.there.1))
     ∙ sym (ap (λ l. slice_get l (r - 1)) h.world) ∙ there.1 in
     let same : h.after ≡ t = cc in
-    subst (IsSettled p) same (does_rest p h.before x h.after went h.changed (idle h.before h.there))
-settled_rests p w v r answer.UnknownSymbol went h idle t there = absurd h.1
-settled_rests p w v r answer.NoReplica went h idle t there =
+    subst (IsSettled p) same (ap (λ r. r.out) h.changed.0.after ∙ idle h.before h.there, h.changed.1)
+settled_rests p w v r (Err (unsettled.Stopped n)) went h idle t there = absurd (true≢false went)
+settled_rests p w v r (Err unsettled.NoReplica) went h idle t there =
     absurd (h.0 (has_one w r t (subst (λ u. IsAt u r t) h.2 there)))
 
 -- the replicas that a run has after it
-pub rested : (w v u : Shared) (r : ℕ) (x : Answer) → was_stopped x ≡ false → v.accepted ≡ w.accepted
-    → Happens (shared_program w) w.replicas (event.At r act.Settle) x v.replicas → u ≡ v
+pub rested : (w v u : Shared) (r : ℕ) (x : Result ℕ NotSettled) → was_stopped x ≡ false → v.accepted ≡ w.accepted
+    → Happens (shared_program w) w.replicas (event.At r act.Settle) (settled_answer x) v.replicas → u ≡ v
     → ((s : Replica) → IsAt w.replicas r s → IsIdle s)
     → (t : Replica) → IsAt u.replicas r t → IsSettled (shared_program u) t
 rested w v u r x went same h e idle =

@@ -1,6 +1,6 @@
 -- What is written of a pool at rest.
 use Rattle.std.proofs.Common.{ℕ, ◌-◌, refl, sym}
-use Rattle.std.specs.Prelude.{Bool, Result, Ok, Err, IfOk}
+use Rattle.std.specs.Prelude.{◌≢◌, Bool, Result, Ok, Err, IfOk}
 use Rattle.std.specs.Bool.{OnTrue}
 use Rattle.std.proofs.lemmas.Bool.{OnTrue_from, OnTrue_at}
 use Rattle.chr_base.specs.declared.program.Program.{Program}
@@ -10,6 +10,10 @@ use Rattle.chr_replica.specs.Replicas.{Replica, IsSettled}
 use Rattle.chr_replica.proofs.OneAnswer.{normal}
 use Rattle.chr_worlds.specs.Worlds.{Replicas, IsAt}
 use Rattle.chr_report.specs.Answers.{AnswersAt, AnswersShow}
+use Rattle.chr_report.specs.declared.request.Request.{Request}
+use Rattle.chr_report.specs.declared.request.Request.TheVariants as request
+use Rattle.chr_report.specs.declared.service.Service.{Service}
+use Rattle.chr_report.specs.working.Obeying.{IsReadyFor}
 use Rattle.chr_report.specs.working.Services.{operations_held, AreBetweenLines}
 use Rattle.chr_report.proofs.BetweenLines.{ready_at}
 use Rattle.chr_report.proofs.Held.{answers_at, same_set}
@@ -28,3 +32,8 @@ pub known_more : {E : Type 0} (r : Result Bool E) {P Q : Type 0} → (P → Q) �
     → IfOk r (λ b. OnTrue b Q)
 known_more (Ok b) f h = OnTrue_from b _ (λ e. f (OnTrue_at e h))
 known_more (Err e) f h = tt
+
+-- what asks for no pool
+pub ready_unless_shown : (s : Service) (q : Request) → ((r : ℕ) → q ≢ request.Show r) → IsReadyFor s q
+ready_unless_shown s (request.Show r) other = absurd (other r refl)
+ready_unless_shown s _ other = tt

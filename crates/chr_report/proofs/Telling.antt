@@ -1,32 +1,34 @@
 -- What a replica answers to a tell.
 use Rattle.std.proofs.Common.{◌≡◌, ℕ, List, codes, refl, sym, ap, ◌∙◌, subst, arith}
-use Rattle.std.specs.Prelude.{◌≢◌, Option, Some, None}
+use Rattle.std.specs.Prelude.{◌≢◌, Option, Some, None, Result, Ok, Err}
 use Rattle.std.specs.Option.{IsSomeAnd}
 use Rattle.std.proofs.lemmas.Option.{none-some}
 use Rattle.chr_base.specs.declared.program.Program.{Program}
 use Rattle.chr_base.specs.ProgramTests.{Declaration}
 use Rattle.chr_base.specs.Stores.{Store}
+use Rattle.chr_ops.specs.declared.fault.Added.{Added}
 use Rattle.chr_ops.specs.declared.fault.Added.TheVariants as added
 use Rattle.chr_ops.specs.Operations.{Operation, Operations, IsNew, IsHeld, IsHeldOtherwise}
 use Rattle.chr_base.specs.Programs.{declarations}
-use Rattle.chr_json.specs.declared.command.DeltaVersion.{DeltaVersion}
-use Rattle.chr_json.specs.declared.command.DeltaVersion.TheVariants as version
+use Rattle.chr_replica.specs.Refusals.{refusal_number}
+use Rattle.chr_replica.specs.declared.refusal.Refusal.{Refusal}
 use Rattle.chr_replica.specs.declared.refusal.Refusal.TheVariants as refused
 use Rattle.chr_replica.specs.declared.refusal.Limit.TheVariants as limit
 use Rattle.chr_replica.specs.Replicas.{Replica, IsDeclared, Tells}
 use Rattle.chr_acts.specs.declared.act.Act.TheVariants as act
-use Rattle.chr_acts.specs.declared.reply.Reply.{Reply}
 use Rattle.chr_acts.specs.declared.reply.Reply.TheVariants as reply
 use Rattle.chr_acts.specs.Events.{Does}
 use Rattle.chr_worlds.specs.Worlds.{Replicas, Happens}
 use Rattle.chr_worlds.specs.declared.event.Event.TheVariants as event
-use Rattle.chr_worlds.specs.declared.answer.Answer.{Answer}
-use Rattle.chr_worlds.specs.declared.answer.Answer.TheVariants as answer
+use Rattle.chr_worlds.specs.declared.refusal.WorldRefusal.{WorldRefusal}
+use Rattle.chr_worlds.specs.declared.refusal.WorldRefusal.TheVariants as denied
+use Rattle.chr_worlds.specs.Answers.{told_answer}
 use Rattle.chr_report.specs.declared.reply.Refusal.TheVariants as refusal
 use Rattle.chr_report.specs.Replies.{refusal_text}
+use Rattle.chr_report.specs.declared.reply.Reply.{Reply}
 use Rattle.chr_report.specs.declared.reply.Reply.TheVariants as replies
 use Rattle.chr_report.specs.Answers.{AnswersTell, AnswersAt}
-use Rattle.chr_report.specs.working.ReplyTexts.{replied_text, answer_text, reply_text}
+use Rattle.chr_report.specs.working.ReplyTexts.{number_text, reply_text, told_reply}
 use Rattle.chr_report.specs.working.Services.{operations_held}
 use Rattle.chr_report.proofs.Held.{answers_at, none_answers}
 
@@ -60,45 +62,53 @@ new_told p s op t d = record {
   told = λ _ _. (refl, ap (λ r. r.operations) d.after);
 }
 
-does_tell : (ds : List Declaration) (word : List ℕ) (k : DeltaVersion) (p : Program) (s : Replica) (op : Operation)
-    (x : Reply) (t : Replica) → IsDeclared p op → Does p s (act.Tell op) x t
-    → AnswersTell op s.operations (replied_text ds word k x) t.operations
-does_tell ds word k p s op (reply.Told added.New) t declared d = new_told p s op t d
-does_tell ds word k p s op (reply.Told added.Again) t declared d = record {
+-- of one that is held, or new
+does_tell : (ds : List Declaration) (p : Program) (s : Replica) (op : Operation) (x : Added) (t : Replica)
+    → Does p s (act.Tell op) (reply.Told x) t
+    → AnswersTell op s.operations (reply_text ds (replies.Told x)) t.operations
+does_tell ds p s op added.New t d = new_told p s op t d
+does_tell ds p s op added.Again t d = record {
   again = λ _. (refl, ap (λ r. r.operations) d.2);
   clash = λ h. absurd (no_same _ op.1 d.1 h);
   full = λ h _. absurd (new_unheld s.operations op h d.1);
   told = λ h _. absurd (new_unheld s.operations op h d.1);
 }
-does_tell ds word k p s op (reply.Refused refused.UnknownSymbol) t declared d = absurd (d.0 declared)
-does_tell ds word k p s op (reply.Refused (refused.Clash id)) t declared d =
+
+-- of one that is refused
+refuses_tell : (p : Program) (s : Replica) (op : Operation) (x : Refusal) (t : Replica) → IsDeclared p op
+    → Does p s (act.Tell op) (reply.Refused x) t
+    → AnswersTell op s.operations (number_text (refusal_number x)) t.operations
+refuses_tell p s op refused.UnknownSymbol t declared d = absurd (d.0 declared)
+refuses_tell p s op (refused.Clash id) t declared d =
     clash_told op s.operations t.operations d.0.2 (ap (λ r. r.operations) d.2)
-does_tell ds word k p s op (reply.Refused (refused.Full limit.Told)) t declared d = record {
+refuses_tell p s op (refused.Full limit.Told) t declared d = record {
   again = λ h. absurd (new_unheld s.operations op d.0.1 h);
   clash = λ h. absurd (no_other _ op.1 d.0.1 h);
   full = λ _ _. (refl, ap (λ r. r.operations) d.2);
   told = λ _ l. let over = d.0.2 in absurd (omega (arith, l, over));
 }
-does_tell ds word k p s op (reply.Refused refused.Memory) t declared d = absurd (d.1 refl)
-does_tell ds word k p s op (reply.Refused _) t declared d = absurd d.0
-does_tell ds word k p s op _ t declared d = absurd d
+refuses_tell p s op refused.Memory t declared d = absurd (d.1 refl)
+refuses_tell p s op _ t declared d = absurd d.0
 
 -- of an operation whose atoms are declared
-pub tell_answers : (ds : List Declaration) (word : List ℕ) (k : DeltaVersion) (p : Program) (w v : Replicas) (r : ℕ)
-    (op : Operation) (x : Answer) → IsDeclared p op → Happens p w (event.At r (act.Tell op)) x v
-    → AnswersAt (operations_held w) r (AnswersTell op) (answer_text ds word k x) (operations_held v)
-tell_answers ds word k p w v r op (answer.Replied x) declared h =
-    answers_at w v r (AnswersTell op) (replied_text ds word k x) h.before h.after h.there h.world
-    (does_tell ds word k p h.before op x h.after declared h.changed)
-tell_answers ds word k p w v r op answer.UnknownSymbol declared h = absurd (h.1 declared)
-tell_answers ds word k p w v r op answer.NoReplica declared h = none_answers w v r (AnswersTell op) h.0 h.2
+pub tell_answers : (ds : List Declaration) (p : Program) (w v : Replicas) (r : ℕ) (op : Operation)
+    (x : Result Added WorldRefusal) → IsDeclared p op → Happens p w (event.At r (act.Tell op)) (told_answer x) v
+    → AnswersAt (operations_held w) r (AnswersTell op) (reply_text ds (told_reply x)) (operations_held v)
+tell_answers ds p w v r op (Ok x) declared h =
+    answers_at w v r (AnswersTell op) (reply_text ds (replies.Told x)) h.before h.after h.there h.world
+    (does_tell ds p h.before op x h.after h.changed)
+tell_answers ds p w v r op (Err (denied.Replica x)) declared h =
+    answers_at w v r (AnswersTell op) (number_text (refusal_number x)) h.before h.after h.there h.world
+    (refuses_tell p h.before op x h.after declared h.changed)
+tell_answers ds p w v r op (Err denied.UnknownSymbol) declared h = absurd (h.1 declared)
+tell_answers ds p w v r op (Err denied.NoReplica) declared h = none_answers w v r (AnswersTell op) h.0 h.2
 
 -- of an operation of the program's atoms, after which a pool may be rested
-pub told : (p : Program) (w v : Replicas) (new : List Operations) (r : ℕ) (op : Operation) (x : Answer)
-    → IsDeclared p op
-    → Happens p w (event.At r (act.Tell op)) x v → new ≡ operations_held v
-    → AnswersAt (operations_held w) r (AnswersTell op) (reply_text (declarations p) (replies.Answered x)) new
-told p w v new r op x declared h e =
-    let ds = declarations p in
-    subst (AnswersAt (operations_held w) r (AnswersTell op) (reply_text ds (replies.Answered x))) (sym e)
-    (tell_answers ds (codes "merged ") version.Two p w v r op x declared h)
+pub told : (p : Program) (w v : Replicas) (new : List Operations) (r : ℕ) (op : Operation)
+    (x : Result Added WorldRefusal) (y : Reply) → IsDeclared p op
+    → Happens p w (event.At r (act.Tell op)) (told_answer x) v → new ≡ operations_held v → y ≡ told_reply x
+    → AnswersAt (operations_held w) r (AnswersTell op) (reply_text (declarations p) y) new
+told p w v new r op x y declared h e is =
+    subst (λ y. AnswersAt (operations_held w) r (AnswersTell op) (reply_text (declarations p) y) new) (sym is)
+    (subst (AnswersAt (operations_held w) r (AnswersTell op) (reply_text (declarations p) (told_reply x))) (sym e)
+    (tell_answers (declarations p) p w v r op x declared h))

@@ -9,6 +9,7 @@ ghost use Rattle.chr_report.specs.working.Continuing.{AnswersLines, GoesOn};
 ghost use Rattle.chr_report.specs.working.LinesLeft.{last_bytes, lines_left};
 ghost use Rattle.chr_report.specs.working.Ahead.{IsAhead};
 ghost use Rattle.chr_report.specs.working.Gathered.{AreTells};
+ghost use Rattle.chr_report.specs.working.Obeying.{IsReadyFor};
 ghost use Rattle.chr_report.specs.working.ReplyTexts.{told_lines};
 ghost use Rattle.chr_report.specs.working.Requests.{FitsProgram};
 ghost use Rattle.chr_report.specs.working.Services.{held, served, IsBetweenLines};
@@ -25,7 +26,7 @@ use std::mem::forget;
 use std::sync::Wait;
 use std::thread::Threads;
 
-/// Answers what is asked for by a reply.
+/// Answers what is asked for by a reply. A replica that is to show its pool has been rested.
 fn answer_by_reply<R: Threads + Wait + Sync>(
     rt: &R,
     alloc: Global,
@@ -35,6 +36,7 @@ fn answer_by_reply<R: Threads + Wait + Sync>(
 ) -> Result<(), AllocError>
     requires ready { IsBetweenLines service.old }
     requires fits { FitsProgram (served service.old) request }
+    requires rests { IsReadyFor service.old request }
     ensures ready { OnOk result (IsBetweenLines service.new) }
     ensures program { service.new.world.accepted ≡ service.old.world.accepted }
     ensures answer { OnOk result (AddsReply (declarations (served service.old)) (rules_of (served service.old))
@@ -115,7 +117,7 @@ pub(crate) struct Answering {
     pub(crate) left: usize,
 }
 
-/// Writes so many answers of operations that were new.
+/// Writes `count` answers of operations that were new.
 fn push_told(out: &mut String, count: usize) -> Result<(), AllocError>
     ensures { OnOk result (string_bytes out.new ≡ string_bytes out.old ++ told_lines count) }
 {

@@ -20,7 +20,7 @@ use std::sync::{Arc, Wait};
 const LEAST_READ: usize = 16_384;
 
 /// The most bytes of a block that another thread reads. A longer block has a long line, which is read to something many
-/// times as large: it is read in its turn, so that no two threads hold so much at once.
+/// times as large: it is read in its turn, so that no two threads hold as much at once.
 const MOST_READ: usize = 655_360;
 
 /// The least bytes of a block whose tells are rested by the thread that reads them: of a shorter one too many atoms may

@@ -1,20 +1,20 @@
 //! What a command line is answered.
-ghost use Rattle.std.specs.Prelude.{◌≡◌, ◌++◌, [], ◌∷◌, OnOk, string_bytes};
+ghost use Rattle.std.specs.Prelude.{◌≡◌, ◌++◌, [], ◌∷◌, IfOk, OnOk, string_bytes};
 ghost use Rattle.chr_base.specs.Programs.{declarations};
 ghost use Rattle.chr_exchange.specs.Texts.{HaveDifferentIds};
 ghost use Rattle.chr_ops.specs.Operations.{operations_of};
 ghost use Rattle.chr_report.specs.Answers.{delta_text_of};
-ghost use Rattle.chr_report.specs.Replies.{line_refusal_number, refusal_text};
-ghost use Rattle.chr_report.specs.working.ReplyTexts.{answer_text, replied_text, reply_text};
-ghost use Rattle.chr_report.specs.working.ReplyTexts.{HasAnswerText, HasText, IsWritable};
+ghost use Rattle.chr_report.specs.Replies.{line_refusal_number};
+ghost use Rattle.chr_report.specs.working.ReplyTexts.{denial_number, merged_reply, number_text, reply_text};
+ghost use Rattle.chr_report.specs.working.ReplyTexts.{shown_reply, synced_reply, told_reply};
 
-use chr_acts::Reply as ActReply;
+use chr_base::bag::Bag;
 use chr_base::program::Program;
 use chr_base::text::push_store;
 use chr_exchange::{delta_text, delta_text_1, summary_text};
 use chr_json::DeltaVersion;
-use chr_ops::{Added, Op};
-use chr_worlds::Answer;
+use chr_ops::{Added, Op, Summary};
+use chr_worlds::WorldRefusal;
 use std::alloc::{AllocError, Global};
 use std::fmt::Write;
 
@@ -54,98 +54,99 @@ impl Refusal {
 /// The answer to a command line.
 #[derive(Drop)]
 pub(crate) enum Reply {
-    /// What the world answers.
-    Answered(Answer),
-    /// What it answers to an exchange.
-    Synced(Answer),
-    /// What it answers where operations are asked for, to be written in this version.
-    Lacked(DeltaVersion, Answer),
-    /// No replica is asked.
+    /// Whether the operation that was told is new.
+    Told(Added),
+    /// How many of the operations that were merged are new.
+    Merged(u64),
+    /// How many operations are new to the replica that took in what another holds.
+    Synced(u64),
+    /// A replica's pool at rest.
+    Shown(Bag),
+    /// The ids of a replica's operations.
+    Summed(Summary),
+    /// The text of the operations that were asked for, as a delta.
+    Lacked(String),
+    /// The replica that was asked refuses it, or there is none.
+    Denied(WorldRefusal),
+    /// No replica was asked.
     Refused(Refusal),
 }
 
-fn push_refusal(out: &mut String, refusal: Refusal) -> Result<(), AllocError>
-    ensures { OnOk result (string_bytes out.new ≡ string_bytes out.old ++ refusal_text refusal) }
-{
-    let number = refusal.number();
-    write!(out, "refused {number}")
+impl Reply {
+    /// The reply to a tell.
+    pub(crate) fn told(told: Result<Added, WorldRefusal>) -> Reply
+        ensures { result ≡ told_reply told }
+    {
+        match told {
+            Ok(added) => Reply::Told(added),
+            Err(refusal) => Reply::Denied(refusal),
+        }
+    }
+
+    /// The reply to a merge.
+    pub(crate) fn merged(merged: Result<u64, WorldRefusal>) -> Reply
+        ensures { result ≡ merged_reply merged }
+    {
+        match merged {
+            Ok(count) => Reply::Merged(count),
+            Err(refusal) => Reply::Denied(refusal),
+        }
+    }
+
+    /// The reply to an exchange.
+    pub(crate) fn synced(synced: Result<u64, WorldRefusal>) -> Reply
+        ensures { result ≡ synced_reply synced }
+    {
+        match synced {
+            Ok(count) => Reply::Synced(count),
+            Err(refusal) => Reply::Denied(refusal),
+        }
+    }
+
+    /// The reply to a show.
+    pub(crate) fn shown(shown: Result<Bag, WorldRefusal>) -> Reply
+        ensures { result ≡ shown_reply shown }
+    {
+        match shown {
+            Ok(bag) => Reply::Shown(bag),
+            Err(refusal) => Reply::Denied(refusal),
+        }
+    }
 }
 
-/// Adds operations as a delta of this version.
-fn push_delta(
+/// The text of operations as a delta of this version.
+pub(crate) fn text_of_delta(
     alloc: Global,
-    out: &mut String,
     program: &Program,
     version: DeltaVersion,
     ops: &[Op],
-) -> Result<(), AllocError>
+) -> Result<String, AllocError>
     requires { HaveDifferentIds ops.now }
-    ensures { OnOk result (string_bytes out.new
-        ≡ string_bytes out.old ++ delta_text_of version (declarations program.now) (operations_of ops.now)) }
+    ensures { IfOk result (λ text.
+        string_bytes text ≡ delta_text_of version (declarations program.now) (operations_of ops.now)) }
 {
-    let text = match version {
-        DeltaVersion::One => delta_text_1(alloc, program, ops)?,
-        DeltaVersion::Two => delta_text(alloc, program, ops)?,
-    };
-    out.push_str(text.as_str())
-}
-
-/// Adds a replica's reply. The number of operations that joined stands behind a word, and a delta is of this version.
-fn push_replied(
-    alloc: Global,
-    out: &mut String,
-    program: &Program,
-    word: &str,
-    version: DeltaVersion,
-    reply: &ActReply,
-) -> Result<(), AllocError>
-    requires { HasText reply.now }
-    ensures { OnOk result (string_bytes out.new
-        ≡ string_bytes out.old ++ replied_text (declarations program.now) word.now version reply.now) }
-{
-    match reply {
-        ActReply::Told(Added::New) => out.push_str("told"),
-        ActReply::Told(Added::Again) => out.push_str("again"),
-        ActReply::Merged(count) => write!(out, "{word}{count}"),
-        ActReply::Shown(bag) => push_store(alloc, out, program, bag),
-        ActReply::Summed(summary) => {
-            let text = summary_text(alloc, summary)?;
-            out.push_str(text.as_str())
-        }
-        ActReply::Lacked(ops) => push_delta(alloc, out, program, version, ops.as_slice()),
-        ActReply::Refused(refusal) => {
-            let number = refusal.number();
-            write!(out, "refused {number}")
-        }
-        ActReply::Stepped
-        | ActReply::Leased(_)
-        | ActReply::LeasedParts(_)
-        | ActReply::WasPut
-        | ActReply::Recalled
-        | ActReply::Settled(_)
-        | ActReply::LeastLease(_)
-        | ActReply::Stopped(_) => unreachable!(),
+    match version {
+        DeltaVersion::One => delta_text_1(alloc, program, ops),
+        DeltaVersion::Two => delta_text(alloc, program, ops),
     }
 }
 
-/// Adds the answer of a world.
-fn push_answer(
-    alloc: Global,
-    out: &mut String,
-    program: &Program,
-    word: &str,
-    version: DeltaVersion,
-    answer: &Answer,
-) -> Result<(), AllocError>
-    requires { HasAnswerText answer.now }
-    ensures { OnOk result (string_bytes out.new
-        ≡ string_bytes out.old ++ answer_text (declarations program.now) word.now version answer.now) }
+/// The number under which a world's refusal is answered.
+fn number_of(refusal: WorldRefusal) -> u8
+    ensures { result ≡ denial_number refusal }
 {
-    match answer {
-        Answer::Replied(reply) => push_replied(alloc, out, program, word, version, reply),
-        Answer::UnknownSymbol => push_refusal(out, Refusal::UnknownSymbol),
-        Answer::NoReplica => push_refusal(out, Refusal::NoReplica),
+    match refusal {
+        WorldRefusal::Replica(refusal) => refusal.number(),
+        WorldRefusal::UnknownSymbol => Refusal::UnknownSymbol.number(),
+        WorldRefusal::NoReplica => Refusal::NoReplica.number(),
     }
+}
+
+/// Adds the answer of a refusal of this number.
+fn push_number(out: &mut String, number: u8) -> Result<(), AllocError>
+    ensures { OnOk result (string_bytes out.new ≡ string_bytes out.old ++ number_text number) }
+{
+    write!(out, "refused {number}")
 }
 
 /// Adds the answer, without its line feed.
@@ -155,21 +156,22 @@ fn push_text(
     program: &Program,
     reply: &Reply,
 ) -> Result<(), AllocError>
-    requires { IsWritable reply.now }
     ensures { OnOk result (string_bytes out.new
         ≡ string_bytes out.old ++ reply_text (declarations program.now) reply.now) }
 {
     match reply {
-        Reply::Answered(answer) => {
-            push_answer(alloc, out, program, "merged ", DeltaVersion::Two, answer)
+        Reply::Told(Added::New) => out.push_str("told"),
+        Reply::Told(Added::Again) => out.push_str("again"),
+        Reply::Merged(count) => write!(out, "merged {count}"),
+        Reply::Synced(count) => write!(out, "synced {count}"),
+        Reply::Shown(bag) => push_store(alloc, out, program, bag),
+        Reply::Summed(summary) => {
+            let text = summary_text(alloc, summary)?;
+            out.push_str(text.as_str())
         }
-        Reply::Synced(answer) => {
-            push_answer(alloc, out, program, "synced ", DeltaVersion::Two, answer)
-        }
-        Reply::Lacked(version, answer) => {
-            push_answer(alloc, out, program, "merged ", *version, answer)
-        }
-        Reply::Refused(refusal) => push_refusal(out, *refusal),
+        Reply::Lacked(text) => out.push_str(text.as_str()),
+        Reply::Denied(refusal) => push_number(out, number_of(*refusal)),
+        Reply::Refused(refusal) => push_number(out, refusal.number()),
     }
 }
 
@@ -180,7 +182,6 @@ pub(crate) fn push_reply(
     program: &Program,
     reply: &Reply,
 ) -> Result<(), AllocError>
-    requires { IsWritable reply.now }
     ensures { OnOk result (string_bytes out.new
         ≡ string_bytes out.old ++ reply_text (declarations program.now) reply.now ++ 10 ∷ []) }
 {

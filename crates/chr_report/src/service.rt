@@ -8,54 +8,54 @@ ghost use Rattle.chr_join.specs.AcceptedPrograms.{program_in};
 ghost use Rattle.chr_base.specs.Programs.{declarations, rules_of};
 ghost use Rattle.chr_json.specs.Reads.{HasIds};
 ghost use Rattle.chr_replica.specs.Replicas.{IsDeclared};
-ghost use Rattle.chr_worlds.specs.Worlds.{Happens};
 ghost use Rattle.chr_base.specs.declared.limits.TheConstants.{MAX_REPLICAS};
 ghost use Rattle.chr_report.specs.Answers.{AnswersBetween, AnswersLacks, AnswersMerge, AnswersShow, AnswersSummary};
 ghost use Rattle.chr_report.specs.Answers.{AnswersTell};
 ghost use Rattle.chr_report.specs.working.Gathered.{AreRested};
-ghost use Rattle.chr_report.specs.working.Obeying.{HoldsMore, IsAnswered, IsAnsweredAt, ShowsFrom};
+ghost use Rattle.chr_report.specs.working.Obeying.{HoldsMore, IsAnswered, IsAnsweredAt, IsReadyFor, ShowsFrom};
 ghost use Rattle.chr_report.specs.working.Requests.{AnswersRequest, FitsProgram};
 ghost use Rattle.chr_report.specs.working.Services.{held, served, was_stopped};
-ghost use Rattle.chr_report.specs.working.Services.{AreAtRest, AreIdle, HasLongRanges, IsBetweenLines};
+ghost use Rattle.chr_report.specs.working.Services.{AreAtRest, AreIdle, IsBetweenLines};
 
 use crate::gathering::Tells;
 use crate::promptly::promptly;
 use crate::readers::Readers;
-use crate::reply::Reply;
+use crate::reply::{Refusal, Reply, text_of_delta};
 use crate::request::Request;
 use crate::resting::tell_replica;
 use crate::sharing::Sharing;
-use chr_acts::{Act, Reply as ActReply};
 use chr_base::program::Program;
+use chr_exchange::lacked_ids_differ;
 use chr_join::Accepted;
 use chr_json::DeltaVersion;
 use chr_ops::{IdRange, Op, Summary};
 use chr_replica::laws::events_keep_replicas_sound;
 use chr_worlds::laws::runs_keep_replicas_sound;
-use chr_worlds::{Answer, Event, World};
+use chr_worlds::{NotSettled, World};
 use std::alloc::{AllocError, Global};
 use std::sync::{Arc, Wait};
 use std::thread::Threads;
 
-/// As many told atoms wait at most in a pool, before those of one line more come.
+/// The most told atoms that wait in a pool before those of one line more come.
 pub(crate) const MOST_WAITING: u64 = 1024;
 
-/// Several workers may save time where more than so many wait.
+/// Several workers may save time where more told atoms than these wait.
 const WORTH_SHARING: u64 = 16_384;
 
-/// As many wait at most for several workers while lines are answered: threads that read others meanwhile would keep the
-/// workers from the processors, so most pools are rested between two blocks of lines.
+/// The most told atoms that wait for several workers while lines are answered. Threads that read others meanwhile would
+/// keep the workers from the processors, so most pools are rested between two blocks of lines.
 const MOST_SHARED: u64 = 16 * WORTH_SHARING;
 
-/// As many wait at most between two blocks of lines: a pool comes into a cache once for all of its atoms that wait.
+/// The most told atoms that wait between two blocks of lines. A pool comes into a cache once for all of its atoms that
+/// wait.
 const MOST_BETWEEN: u64 = 8 * WORTH_SHARING;
 
 /// A pool that is not kept in several is rested by workers where this part of what its replica was told waits in it, or
 /// more: they cut all of it.
 const LEAST_SHARE: u64 = 4;
 
-/// Tells are rested by the threads that read them as long as no more than one of so many of their atoms stays: what
-/// stays is rested once more.
+/// Tells are rested by the threads that read them as long as at most one atom in this number stays: what stays is rested
+/// once more.
 const MOST_STAYING: u64 = 2;
 
 /// Replicas are counted from here.
@@ -68,34 +68,28 @@ enum Coming {
     AtOnce,
 }
 
-/// Replicas that answer command lines. `rested` has for each of them how many atoms that it was told don't wait, and
-/// `rests_ahead` whether threads that read tells rest them. `parts` has the numbers of parts that these carry on, and
-/// `stretch` is the number of the stretch of blocks in which they may.
+/// Replicas that answer command lines, and what is kept to decide when they are rested, and by whom.
 #[derive(Drop)]
 pub(crate) struct Service {
+    /// The replicas.
     pub world: World,
+    /// For each replica, how many of the atoms that it was told don't wait to be rested.
     pub rested: Vec<u64>,
+    /// How resting is shared out among workers.
     pub sharing: Sharing,
+    /// Whether threads that read tells rest them.
     pub rests_ahead: bool,
+    /// The lease numbers of the parts that these threads carry on.
     pub parts: Vec<u64>,
+    /// The number of the stretch of blocks in which parts may be carried on.
     pub stretch: u64,
 }
 
 /// Whether memory was refused to a pool's rest.
-fn was_stopped(answer: &Answer) -> bool
-    ensures { result ≡ was_stopped answer.now }
+fn was_stopped(settled: &Result<u64, NotSettled>) -> bool
+    ensures { result ≡ was_stopped settled.now }
 {
-    matches!(answer, Answer::Replied(ActReply::Stopped(_)))
-}
-
-/// The ranges of a summary that is answered are as long as possible, as its type keeps. It does nothing but look into
-/// the answer, for its contract.
-fn look_into(answer: &Answer)
-    ensures { HasLongRanges answer.now }
-{
-    if let Answer::Replied(ActReply::Summed(summary)) = answer {
-        let _ranges = summary.ranges();
-    }
+    matches!(settled, Err(NotSettled::Stopped(_)))
 }
 
 /// The place of a replica's number in a list, if any list is as long.
@@ -103,7 +97,7 @@ fn place_of(replica: u64) -> Option<usize> {
     usize::try_from(replica.checked_sub(1)?).ok()
 }
 
-/// Noughts, so many.
+/// A list of `count` noughts.
 fn noughts(alloc: Global, count: u32) -> Result<Vec<u64>, AllocError> {
     let mut list = Vec::new(alloc);
     for _place in 0..count {
@@ -113,7 +107,8 @@ fn noughts(alloc: Global, count: u32) -> Result<Vec<u64>, AllocError> {
 }
 
 impl Service {
-    /// So many replicas that were told nothing, 1 to 16, whose resting is shared out like this.
+    /// Opens 1 to [`MAX_REPLICAS`](chr_base::limits::MAX_REPLICAS) replicas that were told nothing, whose resting is
+    /// shared out like this.
     pub(crate) fn open(
         alloc: Global,
         accepted: Accepted,
@@ -180,7 +175,7 @@ impl Service {
         }
     }
 
-    /// Whether several workers are asked for, and so much waits in a replica's pool that they may save time.
+    /// Whether several workers are asked for, and enough waits in a replica's pool that they may save time.
     fn is_worth_sharing(&self, replica: u64) -> bool {
         let waiting = self.waiting(replica);
         self.sharing.workers > 1
@@ -188,7 +183,7 @@ impl Service {
             && (self.is_in_pools(replica) || waiting >= self.told(replica) / LEAST_SHARE)
     }
 
-    /// Notes that so many atoms of a replica's pool wait.
+    /// Notes that `waiting` atoms of a replica's pool wait.
     fn note_waiting(&mut self, replica: u64, waiting: u64)
         ensures { self.new.world ≡ self.old.world }
     {
@@ -208,7 +203,7 @@ impl Service {
         self.stretch = self.stretch.wrapping_add(1);
     }
 
-    /// Begins one if parts are carried on: they have come back.
+    /// Begins a new stretch if parts are carried on: they have come back.
     fn forget_parts(&mut self)
         ensures { self.new.world ≡ self.old.world }
     {
@@ -217,9 +212,8 @@ impl Service {
         }
     }
 
-    /// Notes that tells were told of so many atoms, which had been rested, and that so many atoms more wait. None does
-    /// where a part was carried to them, unless it was out no more: so is what comes of it then, until a new stretch
-    /// begins.
+    /// Records `came` told atoms, which had been rested, and `more` atoms that wait. If the part that was carried to them
+    /// was no longer leased out, what comes of it can't be carried on either, so a new stretch begins.
     fn note_rested(&mut self, tells: &Tells, came: u64, more: u64)
         ensures { self.new.world ≡ self.old.world }
     {
@@ -252,8 +246,8 @@ impl Service {
         ensures rests { OnOk result (AreIdle self.old replica → AreAtRest self.new replica) }
     {
         runs_keep_replicas_sound();
-        let answer = self.world.settle(replica);
-        if was_stopped(&answer) {
+        let settled = self.world.settle(replica);
+        if was_stopped(&settled) {
             return Err(AllocError);
         }
         self.note_waiting(replica, 0);
@@ -338,14 +332,14 @@ impl Service {
         self.is_in_pools(FIRST_REPLICA)
     }
 
-    /// Whether so much waits in a pool that workers are to rest it before more lines are answered.
+    /// Whether enough waits in a pool that workers are to rest it before more lines are answered.
     pub(crate) fn is_to_rest(&self) -> bool {
         let last = self.rested.len() as u64;
         self.rests_between()
             && (FIRST_REPLICA..=last).any(|replica| self.waiting(replica) > MOST_BETWEEN)
     }
 
-    /// Rests a replica's pool by workers, where it is kept in several and so much waits in it that they may save time.
+    /// Rests a replica's pool by workers, where it is kept in several and enough waits in it that they may save time.
     fn rest_waiting<R: Threads + Wait + Sync>(
         &mut self,
         rt: &R,
@@ -370,7 +364,7 @@ impl Service {
         promptly(rt, &mut resting)
     }
 
-    /// Does so with the pools of all replicas.
+    /// Rests the pools of all replicas by workers, where these may save time.
     pub(crate) fn rest_between<R: Threads + Wait + Sync>(
         &mut self,
         rt: &R,
@@ -402,9 +396,9 @@ impl Service {
         ensures answered { IsAnsweredAt self.old self.new replica (AnswersTell op) result }
     {
         runs_keep_replicas_sound();
-        let answer = self.world.tell(alloc, replica, op)?;
+        let told = self.world.tell(alloc, replica, op)?;
         self.rest_many(rt, alloc, replica, Coming::LineByLine)?;
-        Ok(Reply::Answered(answer))
+        Ok(Reply::told(told))
     }
 
     /// Tells a replica operations that were rested by the thread that read them, where there is that replica and all of
@@ -449,9 +443,9 @@ impl Service {
         ensures answered { IsAnsweredAt self.old self.new replica (AnswersMerge ops.items) result }
     {
         runs_keep_replicas_sound();
-        let answer = self.world.merge(alloc, replica, &ops)?;
+        let merged = self.world.merge(alloc, replica, &ops)?;
         self.rest_many(rt, alloc, replica, Coming::AtOnce)?;
-        Ok(Reply::Answered(answer))
+        Ok(Reply::merged(merged))
     }
 
     /// Gives a replica what another holds and it lacks.
@@ -467,43 +461,26 @@ impl Service {
         ensures answered { IsAnswered self.old self.new (λ held. AnswersBetween held from to) result }
     {
         runs_keep_replicas_sound();
-        let answer = self.world.sync(alloc, from, to)?;
+        let synced = self.world.sync(alloc, from, to)?;
         self.rest_many(rt, alloc, to, Coming::AtOnce)?;
-        Ok(Reply::Synced(answer))
+        Ok(Reply::synced(synced))
     }
 
-    /// A replica's pool, which several threads put in order where several workers are asked for.
-    fn shown<R: Threads + Wait + Sync>(
+    /// Shows a replica's pool at rest, which as many threads at most put in order as workers are asked for.
+    fn show<R: Threads + Wait + Sync>(
         &self,
         rt: &R,
         alloc: Global,
         replica: u64,
-    ) -> Result<Answer, AllocError>
-        ensures { IfOk result (λ answer. Happens (served self.now) self.now.world.replicas
-            (Event.At replica Act.Show) answer self.now.world.replicas) }
-    {
-        if self.sharing.workers > 1 {
-            self.world.show_by(rt, alloc, replica)
-        } else {
-            self.world.show(alloc, replica)
-        }
-    }
-
-    /// Rests a replica's pool and shows it.
-    fn show<R: Threads + Wait + Sync>(
-        &mut self,
-        rt: &R,
-        alloc: Global,
-        replica: u64,
     ) -> Result<Reply, AllocError>
-        requires { IsBetweenLines self.old }
-        ensures ready { OnOk result (IsBetweenLines self.new) }
-        ensures answered { IsAnsweredAt self.old self.new replica
-            (AnswersShow (declarations (served self.old)) (rules_of (served self.old))) result }
+        requires ready { IsBetweenLines self.now }
+        requires rests { AreAtRest self.now replica }
+        ensures { IsAnsweredAt self.now self.now replica
+            (AnswersShow (declarations (served self.now)) (rules_of (served self.now))) result }
     {
-        self.settle(rt, alloc, replica)?;
-        let answer = self.shown(rt, alloc, replica)?;
-        Ok(Reply::Answered(answer))
+        let threads = self.sharing.workers as usize;
+        let shown = self.world.show(rt, alloc, replica, threads)?;
+        Ok(Reply::shown(shown))
     }
 
     /// Adds the text of a replica's pool at rest, where it can be written from its rows, by as many threads as workers
@@ -531,9 +508,13 @@ impl Service {
     fn summary(&self, alloc: Global, replica: u64) -> Result<Reply, AllocError>
         ensures { IsAnsweredAt self.now self.now replica AnswersSummary result }
     {
-        let answer = self.world.summary(alloc, replica)?;
-        look_into(&answer);
-        Ok(Reply::Answered(answer))
+        let found = self.world.summary(alloc, replica)?;
+        let Some(summary) = found else {
+            return Ok(Reply::Refused(Refusal::NoReplica));
+        };
+        // Its type keeps that the ranges are as long as possible.
+        let _ranges = summary.ranges();
+        Ok(Reply::Summed(summary))
     }
 
     /// Tells a replica's operations whose ids the ranges don't cover.
@@ -548,12 +529,17 @@ impl Service {
         ensures { IsAnsweredAt self.now self.now replica
             (AnswersLacks (declarations (served self.now)) ranges.items version) result }
     {
+        lacked_ids_differ();
         let summary = Summary::of(ranges)?;
-        let answer = self.world.lacks(alloc, replica, &summary)?;
-        Ok(Reply::Lacked(version, answer))
+        let found = self.world.lacks(alloc, replica, &summary)?;
+        let Some(ops) = found else {
+            return Ok(Reply::Refused(Refusal::NoReplica));
+        };
+        let text = text_of_delta(alloc, self.program(), version, &ops)?;
+        Ok(Reply::Lacked(text))
     }
 
-    /// Does what is asked for.
+    /// Does what is asked for. A replica that is to show its pool has been rested.
     pub(crate) fn obey<R: Threads + Wait + Sync>(
         &mut self,
         rt: &R,
@@ -562,6 +548,7 @@ impl Service {
     ) -> Result<Reply, AllocError>
         requires ready { IsBetweenLines self.old }
         requires fits { FitsProgram (served self.old) request }
+        requires rests { IsReadyFor self.old request }
         ensures ready { OnOk result (IsBetweenLines self.new) }
         ensures answered { IsAnswered self.old self.new
             (λ held. AnswersRequest (declarations (served self.old)) (rules_of (served self.old)) held request)

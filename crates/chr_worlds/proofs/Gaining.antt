@@ -9,6 +9,7 @@ use Rattle.std.proofs.lemmas.List.{map-set, set-get_or}
 use Rattle.std.proofs.lemmas.Option.{slice_get_within, get_or_from_slice_get}
 use Rattle.chr_base.specs.declared.derivation.Step.{Step as StepValue}
 use Rattle.chr_base.specs.declared.program.Program.{Program}
+use Rattle.chr_ops.specs.declared.fault.Added.{Added}
 use Rattle.chr_ops.specs.declared.fault.Added.TheVariants as added
 use Rattle.chr_ops.specs.declared.id.OpId.{OpId}
 use Rattle.chr_ops.specs.declared.news.News.{News}
@@ -32,9 +33,14 @@ use Rattle.chr_acts.specs.declared.act.Act.TheVariants as act
 use Rattle.chr_acts.specs.declared.reply.Reply.{Reply}
 use Rattle.chr_acts.specs.declared.reply.Reply.TheVariants as reply
 use Rattle.chr_acts.specs.Events.{Does}
+use Rattle.chr_worlds.specs.declared.answer.Answer.{Answer}
+use Rattle.chr_worlds.specs.declared.answer.Answer.TheVariants as answer
+use Rattle.chr_worlds.specs.declared.refusal.WorldRefusal.{WorldRefusal}
+use Rattle.chr_worlds.specs.declared.refusal.WorldRefusal.TheVariants as refused
+use Rattle.chr_worlds.specs.Answers.{merged_answer, told_answer}
 use Rattle.chr_worlds.specs.Worlds.{Works}
-use Rattle.chr_worlds.specs.working.Boards.{sets_on, IsTrueOn, TellsNothing, is_told_new, Grows, ChangesAt}
-use Rattle.chr_worlds.specs.working.Boards.{AreLacked, ExchangesAt, HoldsAllOf, MayTellAt}
+use Rattle.chr_worlds.specs.working.Boards.{sets_on, IsReplied, IsTrueOn, TellsNothing, is_told_new, Grows, ChangesAt}
+use Rattle.chr_worlds.specs.working.Boards.{AreLacked, ExchangesAt, HoldsAllOf, MayTellAt, RepliesAt}
 use Rattle.chr_worlds.proofs.Exchanging.{took_in}
 use Rattle.chr_worlds.proofs.Places.{part_at}
 
@@ -62,20 +68,28 @@ does_alike p s (act.Lacks summary) (reply.Lacked ops) t none h = ap (λ r. r.ope
 does_alike p s act.LeastLease (reply.LeastLease number) t none h = ap (λ r. r.operations) h.1
 does_alike p s _ _ t none h = absurd h
 
+-- whatever the answer is
+pub replied_alike : (p : Program) (s : Replica) (a : Act) (x : Answer) (t : Replica) → TellsNothing a
+    → IsReplied x (λ y. Does p s a y t) → t.operations ≡ s.operations
+replied_alike p s a (answer.Replied y) t none h = does_alike p s a y t none h
+replied_alike p s a _ t none h = absurd h
+
 -- a told operation that is not new gives none
-tell_alike : (p : Program) (s : Replica) (op : Operation) (x : Reply) (t : Replica) → is_told_new x ≡ false
-    → Does p s (act.Tell op) x t → t.operations ≡ s.operations
-tell_alike p s op (reply.Told added.New) t other h = absurd (true≢false other)
-tell_alike p s op (reply.Told added.Again) t other h = ap (λ r. r.operations) h.2
-tell_alike p s op (reply.Refused r) t other h = ap (λ r. r.operations) h.2
-tell_alike p s op _ t other h = absurd h
+tell_alike : (p : Program) (s : Replica) (op : Operation) (x : Result Added WorldRefusal) (t : Replica)
+    → is_told_new x ≡ false → IsReplied (told_answer x) (λ y. Does p s (act.Tell op) y t)
+    → t.operations ≡ s.operations
+tell_alike p s op (Ok added.New) t other h = absurd (true≢false other)
+tell_alike p s op (Ok added.Again) t other h = ap (λ r. r.operations) h.2
+tell_alike p s op (Err (refused.Replica r)) t other h = ap (λ r. r.operations) h.2
+tell_alike p s op (Err _) t other h = absurd h
 
 -- nor does a merge that is refused
-merge_alike : (p : Program) (s : Replica) (ops : List Operation) (x : Reply) (t : Replica)
-    → ((n : ℕ) → x ≢ reply.Merged n) → Does p s (act.Merge ops) x t → t.operations ≡ s.operations
-merge_alike p s ops (reply.Merged n) t other h = absurd (other n refl)
-merge_alike p s ops (reply.Refused r) t other h = ap (λ r. r.operations) h.2
-merge_alike p s ops _ t other h = absurd h
+merge_alike : (p : Program) (s : Replica) (ops : List Operation) (x : Result ℕ WorldRefusal) (t : Replica)
+    → ((n : ℕ) → x ≢ Ok n) → IsReplied (merged_answer x) (λ y. Does p s (act.Merge ops) y t)
+    → t.operations ≡ s.operations
+merge_alike p s ops (Ok n) t other h = absurd (other n refl)
+merge_alike p s ops (Err (refused.Replica r)) t other h = ap (λ r. r.operations) h.2
+merge_alike p s ops (Err _) t other h = absurd h
 
 -- nor do steps on parts that are out
 pub works_alike : (p : Program) (s : Replica) (number : ℕ) (steps : List StepValue) (x : Reply) (t : Replica)
@@ -132,38 +146,38 @@ gained_on v w place os ids is gives others bs cs R h after right =
     (subst (GainsOnly m h.after.replica.operations) is grows.only) grows.holds right)
 
 -- the id of a new operation that it is told
-pub told_on : (v w : News) (place : ℕ) (id : OpId) (op : Operation) (x : Reply) → op.0 ≡ id → is_told_new x ≡ true
+pub told_on : (v w : News) (place : ℕ) (id : OpId) (op : Operation) (x : Result Added WorldRefusal) → op.0 ≡ id
+    → is_told_new x ≡ true
     → ((b : ℕ) (m n k : Operations) → IsTrueOf v place b m n → GainsOnly m k (id ∷ []) → IsTrueOf w place b k n)
     → ((a b : ℕ) (m n : Operations) → a ≢ place → IsTrueOf v a b m n → IsTrueOf w a b m n)
-    → (bs cs : List Held) → ChangesAt bs place (λ b t. Does (program_on b) b.replica (act.Tell op) x t) cs
-    → IsTrueOn v bs → IsTrueOn w cs
-told_on v w place id op (reply.Told added.New) same is gives others bs cs h =
+    → (bs cs : List Held) → RepliesAt bs place (act.Tell op) (told_answer x) cs → IsTrueOn v bs → IsTrueOn w cs
+told_on v w place id op (Ok added.New) same is gives others bs cs h =
     gained_on v w place (op ∷ []) (id ∷ []) (ap (λ q. q ∷ []) same) gives others bs cs _ h
     (ap (λ r. r.operations) h.changed.after ∙ sym (union_new h.before.replica.operations op h.changed.new))
 told_on v w place id op _ same is gives others bs cs h = absurd (true≢false (sym is))
 
 -- and nothing need be kept of one that is not new
-pub not_told_on : (w : News) (place : ℕ) (op : Operation) (x : Reply) → is_told_new x ≡ false → (bs cs : List Held)
-    → ChangesAt bs place (λ b t. Does (program_on b) b.replica (act.Tell op) x t) cs → IsTrueOn w bs → IsTrueOn w cs
+pub not_told_on : (w : News) (place : ℕ) (op : Operation) (x : Result Added WorldRefusal) → is_told_new x ≡ false
+    → (bs cs : List Held) → RepliesAt bs place (act.Tell op) (told_answer x) cs → IsTrueOn w bs → IsTrueOn w cs
 not_told_on w place op x other bs cs h right =
     subst (IsTrueOn w) (sym h.boards)
     (stays_true w bs place h.before h.after h.there
     (tell_alike (program_on h.before) h.before.replica op x h.after.replica other h.changed) right)
 
 -- the ids of operations that it merged
-pub merged_on : (v w : News) (place n : ℕ) (ops : List Operation) (x : Reply) → x ≡ reply.Merged n
+pub merged_on : (v w : News) (place n : ℕ) (ops : List Operation) (x : Result ℕ WorldRefusal) → x ≡ Ok n
     → ((b : ℕ) (m n k : Operations) → IsTrueOf v place b m n → GainsOnly m k (ids_of ops) → IsTrueOf w place b k n)
     → ((a b : ℕ) (m n : Operations) → a ≢ place → IsTrueOf v a b m n → IsTrueOf w a b m n)
-    → (bs cs : List Held) → ChangesAt bs place (λ b t. Does (program_on b) b.replica (act.Merge ops) x t) cs
-    → IsTrueOn v bs → IsTrueOn w cs
+    → (bs cs : List Held) → RepliesAt bs place (act.Merge ops) (merged_answer x) cs → IsTrueOn v bs → IsTrueOn w cs
 merged_on v w place n ops x is gives others bs cs h =
     let merges : Does (program_on h.before) h.before.replica (act.Merge ops) (reply.Merged n) h.after.replica =
-    subst (λ x. Does (program_on h.before) h.before.replica (act.Merge ops) x h.after.replica) is h.changed in
+    subst (λ x. IsReplied (merged_answer x) (λ y. Does (program_on h.before) h.before.replica (act.Merge ops) y
+    h.after.replica)) is h.changed in
     gained_on v w place ops (ids_of ops) refl gives others bs cs _ h (ap (λ r. r.operations) merges.after)
 
 -- and nothing of those that it did not
-pub not_merged_on : (w : News) (place : ℕ) (ops : List Operation) (x : Reply) → ((n : ℕ) → x ≢ reply.Merged n)
-    → (bs cs : List Held) → ChangesAt bs place (λ b t. Does (program_on b) b.replica (act.Merge ops) x t) cs
+pub not_merged_on : (w : News) (place : ℕ) (ops : List Operation) (x : Result ℕ WorldRefusal)
+    → ((n : ℕ) → x ≢ Ok n) → (bs cs : List Held) → RepliesAt bs place (act.Merge ops) (merged_answer x) cs
     → IsTrueOn w bs → IsTrueOn w cs
 not_merged_on w place ops x other bs cs h right =
     subst (IsTrueOn w) (sym h.boards)
@@ -207,7 +221,8 @@ met_on v w from to bs meets takers others h right =
     (set_at bs from h.giver h.at_from) (set_at bs to h.taker h.at_to) h.holds right
 
 -- after an exchange the taker holds all that the giver does
-pub holds_all : ExchangeLaw → (bs cs : List Held) (from to n : ℕ) → ExchangesAt bs from to (reply.Merged n) cs
+pub holds_all : ExchangeLaw → (bs cs : List Held) (from to n : ℕ)
+    → ExchangesAt bs from to (answer.Replied (reply.Merged n)) cs
     → HoldsAllOf cs from to
 holds_all exchange bs cs from to n h =
     let c = h.taken in

@@ -24,11 +24,14 @@ use Rattle.chr_acts.specs.declared.act.Act.TheVariants as act
 use Rattle.chr_acts.specs.declared.reply.Reply.{Reply}
 use Rattle.chr_acts.specs.Events.{Does}
 use Rattle.chr_join.specs.AcceptedPrograms.{program_in}
+use Rattle.chr_worlds.specs.declared.answer.Answer.{Answer}
+use Rattle.chr_worlds.specs.declared.answer.Answer.TheVariants as answer
+use Rattle.chr_worlds.specs.declared.event.Event.TheVariants as event
 use Rattle.chr_worlds.specs.Resting.{ComesToRest, RestsAt}
-use Rattle.chr_worlds.specs.Worlds.{Changes, IsAt, TakesIn}
+use Rattle.chr_worlds.specs.Worlds.{Changes, Happens, IsAt, TakesIn}
 use Rattle.chr_worlds.specs.Sharing.{Shared, shared_program}
 use Rattle.chr_worlds.specs.working.Boards.{replicas_on, AreOf, ChangesAt, AreLacked, AreLackedAt, ExchangesAt}
-use Rattle.chr_worlds.specs.working.Boards.{MayTellAt}
+use Rattle.chr_worlds.specs.working.Boards.{IsReplied, MayTellAt, RepliesAt}
 
 -- a board that was read is at its place
 pub is_there : (bs : List Held) (place : ℕ) (b : Held) → place < length bs → b ≡ slice_index_or bs place b
@@ -89,12 +92,13 @@ stays_at w r s R here holds = record {
 }
 
 -- what a board answers without a change is the answer of its replica in the world
-pub asked_at : (w : Shared) (r : ℕ) (b : Held) (a : Act) (x : Reply) → IsAt w.replicas r b.replica
-    → b.accepted ≡ w.accepted → Does (program_on b) b.replica a x b.replica
-    → Changes w.replicas r (λ s t. Does (shared_program w) s a x t) w.replicas
-asked_at w r b a x here program does =
-    stays_at w.replicas r b.replica (λ s t. Does (shared_program w) s a x t) here
-    (subst (λ k. Does (program_in k) b.replica a x b.replica) program does)
+pub asked_at : (w : Shared) (r : ℕ) (b : Held) (a : Act) (x : Answer) → IsAt w.replicas r b.replica
+    → b.accepted ≡ w.accepted → IsReplied x (λ y. Does (program_on b) b.replica a y b.replica)
+    → Happens (shared_program w) w.replicas (event.At r a) x w.replicas
+asked_at w r b a (answer.Replied y) here program does =
+    stays_at w.replicas r b.replica (λ s t. Does (shared_program w) s a y t) here
+    (subst (λ k. Does (program_in k) b.replica a y b.replica) program does)
+asked_at w r b a _ here program does = absurd does
 
 -- boards that were told nothing
 pub untold : (n : ℕ) (b : Held) → replicas_on (replicate n b) ≡ replicate n b.replica
@@ -119,6 +123,15 @@ changed_there now bs place b c R view within read program changed = record {
   boards = ap (λ l. slice_set l place c) view;
 }
 
+-- and one that did an act
+pub replies_there : (now bs : List Held) (place : ℕ) (b c : Held) (asked : Act) (x : Answer) → bs ≡ now
+    → place < length now → b ≡ slice_index_or bs place b → c.accepted ≡ b.accepted
+    → IsReplied x (λ y. Does (program_on b) b.replica asked y c.replica)
+    → RepliesAt now place asked x (slice_set bs place c)
+replies_there now bs place b c asked x view within read program replied =
+    changed_there now bs place b c (λ b t. IsReplied x (λ y. Does (program_on b) b.replica asked y t)) view within read
+    program replied
+
 -- what is lacked, by the places of the boards
 pub lacked_at : (now bs : List Held) (from to : ℕ) (giver taker : Held) (ops : List Operation) → bs ≡ now
     → slice_get bs from ≡ Some giver → slice_get bs to ≡ Some taker
@@ -132,29 +145,32 @@ lacked_at now bs from to giver taker ops view at_from at_to lacked =
       lacked = lacked;
     })
 
--- what is lacked is merged
-pub takes_in : (bs cs : List Held) (from to : ℕ) (ops os : List Operation) (x : Reply) → AreLackedAt bs from to ops
+-- what is lacked is merged, with this reply
+merges_lacked : (bs cs : List Held) (from to : ℕ) (ops os : List Operation) (x : Reply) (l : AreLackedAt bs from to ops)
     → os ≡ ops → ChangesAt bs to (λ b t. Does (program_on b) b.replica (act.Merge os) x t) cs
-    → ExchangesAt bs from to x cs
-takes_in bs cs from to ops os x l is h =
+    → ChangesAt bs to (λ b t. TakesIn (program_on b) l.giver.replica b.replica x t) cs
+merges_lacked bs cs from to ops os x l is h =
     let e : ◌≡◌ {A = Option Held} (Some l.taker) (Some h.before) = sym l.at_to ∙ h.there in
     let same : l.taker ≡ h.before = cc in record {
-      giver = l.giver;
-      there = l.at_from;
-      taken = record {
-        before = h.before;
-        after = h.after;
-        there = h.there;
-        program = h.program;
-        changed = record {
-          summary = l.lacked.summary;
-          covers = subst (λ b. CoversJust l.lacked.summary b.replica.operations) same l.lacked.covers;
-          merged = subst (λ os. Does (program_on h.before) h.before.replica (act.Merge os) x h.after.replica)
-              (is ∙ l.lacked.lacked) h.changed;
-        };
-        boards = h.boards;
+      before = h.before;
+      after = h.after;
+      there = h.there;
+      program = h.program;
+      changed = record {
+        summary = l.lacked.summary;
+        covers = subst (λ b. CoversJust l.lacked.summary b.replica.operations) same l.lacked.covers;
+        merged = subst (λ os. Does (program_on h.before) h.before.replica (act.Merge os) x h.after.replica)
+            (is ∙ l.lacked.lacked) h.changed;
       };
+      boards = h.boards;
     }
+
+-- what is lacked is merged, with this answer
+pub takes_in : (bs cs : List Held) (from to : ℕ) (ops os : List Operation) (x : Answer) → AreLackedAt bs from to ops
+    → os ≡ ops → RepliesAt bs to (act.Merge os) x cs → ExchangesAt bs from to x cs
+takes_in bs cs from to ops os (answer.Replied x) l is h =
+    record { giver = l.giver; there = l.at_from; taken = merges_lacked bs cs from to ops os x l is h }
+takes_in bs cs from to ops os _ l is h = absurd h.changed
 
 -- what happens to a board happens to its replica, under the world's program
 pub happens_at : (w : Shared) (a : Accepted) (bs cs : List Held) (number place : ℕ)
@@ -166,13 +182,21 @@ happens_at w a bs cs number place R view is all h =
     (replicas_change a bs cs number place _ _ is all
     (λ b t of does. subst (λ a. R (program_in a) b.replica t) of does) h)
 
+-- an act that a board does is an event of the world
+pub replies_at : (w : Shared) (a : Accepted) (bs cs : List Held) (number place : ℕ) (asked : Act) (x : Answer)
+    → record { accepted = a; replicas = replicas_on bs } ≡ w → number ≡ place + 1 → AreOf a bs
+    → RepliesAt bs place asked x cs
+    → Happens (shared_program w) w.replicas (event.At number asked) x (replicas_on cs)
+replies_at w a bs cs number place asked (answer.Replied y) view is all h =
+    happens_at w a bs cs number place (λ p s t. Does p s asked y t) view is all h
+replies_at w a bs cs number place asked _ view is all h = absurd h.changed
+
 -- an exchange between boards is one between their replicas
-pub syncs_at : (w : Shared) (a : Accepted) (bs cs : List Held) (a_number b_number from to : ℕ) (x : Reply)
+pub syncs_at : (w : Shared) (a : Accepted) (bs cs : List Held) (a_number b_number from to : ℕ) (x : Answer)
     → record { accepted = a; replicas = replicas_on bs } ≡ w → a_number ≡ from + 1 → b_number ≡ to + 1 → AreOf a bs
     → ExchangesAt bs from to x cs
-    → (s : Replica) × IsAt w.replicas a_number s
-    × Changes w.replicas b_number (λ t u. TakesIn (shared_program w) s t x u) (replicas_on cs)
-syncs_at w a bs cs a_number b_number from to x view is_a is_b all h =
+    → Happens (shared_program w) w.replicas (event.Sync a_number b_number) x (replicas_on cs)
+syncs_at w a bs cs a_number b_number from to (answer.Replied x) view is_a is_b all h =
     subst (λ w. (s : Replica) × IsAt w.replicas a_number s
     × Changes w.replicas b_number (λ t u. TakesIn (shared_program w) s t x u) (replicas_on cs)) view (
       h.giver.replica,
@@ -180,6 +204,7 @@ syncs_at w a bs cs a_number b_number from to x view is_a is_b all h =
       replicas_change a bs cs b_number to _ _ is_b all
           (λ b t of takes. subst (λ a. TakesIn (program_in a) h.giver.replica b.replica x t) of takes) h.taken,
     )
+syncs_at w a bs cs a_number b_number from to _ view is_a is_b all h = absurd h.taken.changed
 
 -- ---- a board that is told rested operations
 

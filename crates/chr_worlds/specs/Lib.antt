@@ -1,3 +1,4 @@
+pub mod Answers
 pub mod Worlds
 pub mod Events
 pub mod Sharing

@@ -1,5 +1,5 @@
 //! The boards of a world, with what each gained since others took from it.
-ghost use Rattle.std.specs.Prelude.{◌≡◌, ◌+◌, ◌<◌, ◌≤◌, ℕ, All, IfNone, IfOk, IfSome, OnErr, OnOk, Some, length};
+ghost use Rattle.std.specs.Prelude.{◌≡◌, ◌+◌, ◌<◌, ◌≤◌, ℕ, All, IfNone, IfOk, IfSome, Ok, OnErr, OnOk, Some, length};
 ghost use Rattle.std.specs.Prelude.{replicate, slice_get};
 ghost use Rattle.std.specs.Arc.{arc_value};
 ghost use Rattle.chr_base.specs.declared.limits.TheConstants.{MAX_PARTS, MAX_WORKERS};
@@ -8,18 +8,21 @@ ghost use Rattle.chr_replica.specs.Replicas.{first};
 ghost use Rattle.chr_replica.specs.RestedOps.{AreRestedBy, IsPlaced, RefusesThem};
 ghost use Rattle.chr_acts.specs.Acts.{FitsAct};
 ghost use Rattle.chr_acts.specs.Events.{Does};
+ghost use Rattle.chr_worlds.specs.Answers.{merged_answer, settled_answer, told_answer};
 ghost use Rattle.chr_worlds.specs.Resting.{ComesToRest, KeepsTold};
 ghost use Rattle.chr_worlds.specs.Worlds.{Works};
 ghost use Rattle.chr_worlds.specs.working.Boards.{AreLackedAt, ChangesAt, ExchangesAt, HoldsAllOf, MayTellAt};
-ghost use Rattle.chr_worlds.specs.working.Boards.{TellsNothing};
+ghost use Rattle.chr_worlds.specs.working.Boards.{RepliesAt, TellsNothing};
 
 use crate::boards::{lacked, lacked_among, opened, place_of, work};
+use crate::calls::{merge, settle, tell};
 use crate::gained::{keep_merged, keep_rested, keep_told};
+use crate::refusal::{NotSettled, WorldRefusal};
 use crate::resting::rest;
-use chr_acts::{Act, Reply, carry_out, merge, settle, tell};
+use chr_acts::{Act, Reply, carry_out};
 use chr_base::derivation::Step;
 use chr_join::Accepted;
-use chr_ops::{News, Op, exchange_laws};
+use chr_ops::{Added, News, Op, exchange_laws};
 use chr_replica::{Board, Destination, Placed, RestedOps};
 use std::alloc::{AllocError, Global};
 use std::marker::Model;
@@ -51,7 +54,7 @@ impl Model for BoardList {
 }
 
 impl BoardList {
-    /// So many boards of a program that were told nothing.
+    /// Opens `count` boards of a program that were told nothing.
     pub(crate) fn open(
         alloc: Global,
         accepted: &Arc<Accepted>,
@@ -99,16 +102,21 @@ impl BoardList {
     }
 
     /// Tells the board at a place an operation.
-    pub(crate) fn tell(&mut self, alloc: Global, place: usize, op: Op) -> Result<Reply, AllocError>
+    pub(crate) fn tell(
+        &mut self,
+        alloc: Global,
+        place: usize,
+        op: Op,
+    ) -> Result<Result<Added, WorldRefusal>, AllocError>
         requires { place < length self.old }
-        ensures ok { IfOk result (λ reply.
-            ChangesAt self.old place (λ b t. Does (program_on b) b.replica (Act.Tell op) reply t) self.new) }
+        ensures ok { IfOk result (λ told.
+            RepliesAt self.old place (Act.Tell op) (told_answer told) self.new) }
         ensures err { OnErr result (self.new ≡ self.old) }
     {
         let id = op.id();
-        let reply = tell(alloc, &mut self.boards[place], op)?;
-        keep_told(&mut self.news, place, id, &reply);
-        Ok(reply)
+        let told = tell(alloc, &mut self.boards[place], op)?;
+        keep_told(&mut self.news, place, id, &told);
+        Ok(told)
     }
 
     /// Tells the board at a place operations whose atoms were rested.
@@ -138,21 +146,21 @@ impl BoardList {
         alloc: Global,
         place: usize,
         ops: &[Op],
-    ) -> Result<Reply, AllocError>
+    ) -> Result<Result<u64, WorldRefusal>, AllocError>
         requires { place < length self.old }
-        ensures ok { IfOk result (λ reply.
-            ChangesAt self.old place (λ b t. Does (program_on b) b.replica (Act.Merge ops.now) reply t) self.new) }
+        ensures ok { IfOk result (λ merged.
+            RepliesAt self.old place (Act.Merge ops.now) (merged_answer merged) self.new) }
         ensures err { OnErr result (self.new ≡ self.old) }
     {
-        let reply = merge(alloc, &mut self.boards[place], ops)?;
-        keep_merged(&mut self.news, place, ops, &reply);
-        Ok(reply)
+        let merged = merge(alloc, &mut self.boards[place], ops)?;
+        keep_merged(&mut self.news, place, ops, &merged);
+        Ok(merged)
     }
 
     /// Rests the pool of the board at a place.
-    pub(crate) fn settle(&mut self, place: usize) -> Reply
+    pub(crate) fn settle(&mut self, place: usize) -> Result<u64, NotSettled>
         requires { place < length self.old }
-        ensures { ChangesAt self.old place (λ b t. Does (program_on b) b.replica Act.Settle result t) self.new }
+        ensures { RepliesAt self.old place Act.Settle (settled_answer result) self.new }
     {
         settle(&mut self.boards[place])
     }
@@ -173,7 +181,7 @@ impl BoardList {
         work(alloc, &mut self.boards[place], number, steps)
     }
 
-    /// Rests the pool of the board at a place with all parts of it that are out, by so many workers.
+    /// Rests the pool of the board at a place with all parts of it that are out, by this number of workers.
     pub(crate) fn rest<R: Threads + Wait + Sync>(
         &mut self,
         rt: &R,
@@ -207,11 +215,17 @@ impl BoardList {
     }
 
     /// Keeps that the board at the second place holds all that the one at the first does, where that came of a merge.
-    fn keep_met(&mut self, alloc: Global, giver: usize, taker: usize, reply: &Reply)
-        requires { (n : ℕ) → reply.now ≡ Reply.Merged n → HoldsAllOf self.old giver taker }
+    fn keep_met(
+        &mut self,
+        alloc: Global,
+        giver: usize,
+        taker: usize,
+        merged: &Result<u64, WorldRefusal>,
+    )
+        requires { (n : ℕ) → merged.now ≡ Ok n → HoldsAllOf self.old giver taker }
         ensures { self.new ≡ self.old }
     {
-        if let Reply::Merged(_) = reply {
+        if let Ok(_) = merged {
             self.news.met(alloc, giver, taker);
         }
     }
@@ -222,16 +236,16 @@ impl BoardList {
         alloc: Global,
         giver: usize,
         taker: usize,
-    ) -> Result<Reply, AllocError>
+    ) -> Result<Result<u64, WorldRefusal>, AllocError>
         requires giver { giver < length self.old }
         requires taker { taker < length self.old }
-        ensures ok { IfOk result (λ reply. ExchangesAt self.old giver taker reply self.new) }
+        ensures ok { IfOk result (λ merged. ExchangesAt self.old giver taker (merged_answer merged) self.new) }
         ensures err { OnErr result (self.new ≡ self.old) }
     {
         exchange_laws();
         let ops = self.lacked(alloc, giver, taker)?;
-        let reply = self.merge(alloc, taker, &ops)?;
-        self.keep_met(alloc, giver, taker, &reply);
-        Ok(reply)
+        let merged = self.merge(alloc, taker, &ops)?;
+        self.keep_met(alloc, giver, taker, &merged);
+        Ok(merged)
     }
 }

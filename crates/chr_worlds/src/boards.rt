@@ -16,7 +16,7 @@ use chr_replica::{Board, Refusal};
 use std::alloc::{AllocError, Global};
 use std::sync::Arc;
 
-/// So many boards of a program that were told nothing.
+/// Opens `count` boards of a program that were told nothing.
 pub(crate) fn opened(
     alloc: Global,
     accepted: &Arc<Accepted>,
@@ -77,7 +77,8 @@ fn put_stepped(alloc: Global, board: &mut Board, number: u64, steps: &[Step]) ->
     }
 }
 
-/// Does so, and answers with what is refused. Where memory is refused nothing changes.
+/// Takes these steps on the part that the board has out under a number, puts back what comes of it, and answers with
+/// what is refused. Where memory is refused nothing changes.
 pub(crate) fn work(
     alloc: Global,
     board: &mut Board,
@@ -103,7 +104,8 @@ pub(crate) fn lacked(alloc: Global, giver: &Board, taker: &Board) -> Result<Vec<
     giver.lacks(alloc, &summary)
 }
 
-/// The same, where the second lacks no other ids than these. It costs look-ups for these ids alone.
+/// What the first board holds and the second lacks, where it lacks no other ids than these. It costs look-ups for these
+/// ids alone.
 pub(crate) fn lacked_among(
     alloc: Global,
     giver: &Board,

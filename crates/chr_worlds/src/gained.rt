@@ -1,39 +1,43 @@
 //! What boards gain.
 ghost use Rattle.std.specs.Prelude.{◌≡◌, List};
-ghost use Rattle.chr_replica.specs.Boards.{program_on, Held as HeldBoard};
-ghost use Rattle.chr_acts.specs.Events.{Does};
+ghost use Rattle.chr_replica.specs.Boards.{Held as HeldBoard};
 ghost use Rattle.chr_ops.specs.Operations.{Operation};
-ghost use Rattle.chr_worlds.specs.working.Boards.{is_told_new, ChangesAt, IsTrueOn, MayTellAt};
+ghost use Rattle.chr_worlds.specs.Answers.{merged_answer, told_answer};
+ghost use Rattle.chr_worlds.specs.working.Boards.{is_told_new, IsTrueOn, MayTellAt, RepliesAt};
 
-use chr_acts::{Act, Reply};
+use crate::refusal::WorldRefusal;
+use chr_acts::Act;
 use chr_ops::{Added, News, Op, OpId};
 use chr_replica::{Placed, RestedOps};
 
 /// Whether a told operation was new.
-fn is_told_new(reply: &Reply) -> bool
-    ensures { result ≡ is_told_new reply.now }
+fn is_told_new(told: &Result<Added, WorldRefusal>) -> bool
+    ensures { result ≡ is_told_new told.now }
 {
-    matches!(reply, Reply::Told(Added::New))
+    matches!(told, Ok(Added::New))
 }
 
 /// Keeps the id of an operation that the board at a place was told, where it was new to it.
-pub(crate) fn keep_told(news: &mut News, place: usize, id: OpId, reply: &Reply)
+pub(crate) fn keep_told(news: &mut News, place: usize, id: OpId, told: &Result<Added, WorldRefusal>)
     ensures { (bs cs : List HeldBoard) (op : Operation) → op.0 ≡ id
-        → ChangesAt bs place (λ b t. Does (program_on b) b.replica (Act.Tell op) reply.now t) cs
-        → IsTrueOn news.old bs → IsTrueOn news.new cs }
+        → RepliesAt bs place (Act.Tell op) (told_answer told.now) cs → IsTrueOn news.old bs → IsTrueOn news.new cs }
 {
-    if is_told_new(reply) {
+    if is_told_new(told) {
         news.gained_one(place, id);
     }
 }
 
 /// Keeps the ids of operations that the board at a place was to merge, where it did.
-pub(crate) fn keep_merged(news: &mut News, place: usize, ops: &[Op], reply: &Reply)
-    ensures { (bs cs : List HeldBoard)
-        → ChangesAt bs place (λ b t. Does (program_on b) b.replica (Act.Merge ops.now) reply.now t) cs
+pub(crate) fn keep_merged(
+    news: &mut News,
+    place: usize,
+    ops: &[Op],
+    merged: &Result<u64, WorldRefusal>,
+)
+    ensures { (bs cs : List HeldBoard) → RepliesAt bs place (Act.Merge ops.now) (merged_answer merged.now) cs
         → IsTrueOn news.old bs → IsTrueOn news.new cs }
 {
-    if let Reply::Merged(_) = reply {
+    if let Ok(_) = merged {
         news.gained(place, ops);
     }
 }

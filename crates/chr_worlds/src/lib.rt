@@ -4,14 +4,17 @@
 mod answer;
 mod board_list;
 mod boards;
+mod calls;
 mod event;
 mod gained;
 pub mod laws;
 mod playing;
+mod refusal;
 mod resting;
 mod world;
 
 pub use answer::Answer;
 pub use event::Event;
 pub use playing::PlayStopped;
+pub use refusal::{NotSettled, WorldRefusal};
 pub use world::World;

@@ -4,6 +4,8 @@ ghost use Rattle.std.specs.Arc.{arc_value};
 ghost use Rattle.chr_replica.specs.Replicas.{first, Replica};
 ghost use Rattle.chr_replica.specs.RestedOps.{AreRestedBy, IsPlaced, RefusesThem, TellsThem};
 ghost use Rattle.chr_acts.specs.Acts.{FitsAct};
+ghost use Rattle.chr_worlds.specs.Answers.{lacked_answer, merged_answer, settled_answer, shown_answer, summed_answer};
+ghost use Rattle.chr_worlds.specs.Answers.{told_answer};
 ghost use Rattle.chr_worlds.specs.Events.{FitsEvent};
 ghost use Rattle.chr_worlds.specs.Laws.{AgreeAt};
 ghost use Rattle.chr_worlds.specs.Resting.{KeepsTold, RestsAt};
@@ -13,12 +15,15 @@ ghost use Rattle.chr_worlds.specs.working.Boards.{TellsNothing};
 
 use crate::answer::Answer;
 use crate::board_list::BoardList;
+use crate::calls::show;
 use crate::event::Event;
-use chr_acts::{Act, lacks, show, show_by, summary};
+use crate::refusal::{NotSettled, WorldRefusal};
+use chr_acts::Act;
+use chr_base::bag::Bag;
 use chr_base::derivation::Step;
 use chr_base::limits::{MAX_PARTS, MAX_REPLICAS, MAX_WORKERS};
 use chr_join::Accepted;
-use chr_ops::{Op, Summary};
+use chr_ops::{Added, Op, Summary};
 use chr_replica::laws::one_answer;
 use chr_replica::{Board, Destination, Placed, RestedOps, declares, declares_all};
 use std::alloc::{AllocError, Global};
@@ -50,7 +55,7 @@ impl Model for World {
 }
 
 impl World {
-    /// So many replicas that were told nothing, 1 to [`MAX_REPLICAS`].
+    /// Opens 1 to [`MAX_REPLICAS`] replicas that were told nothing.
     pub fn open(alloc: Global, accepted: Arc<Accepted>, replicas: u32) -> Result<World, AllocError>
         requires { (1 ≤ replicas) × (replicas ≤ MAX_REPLICAS) }
         ensures accepted { IfOk result (λ world. world.accepted ≡ arc_value accepted) }
@@ -108,7 +113,7 @@ impl World {
     {
         match event {
             Event::At(replica, act) => self.act_at(alloc, *replica, act),
-            Event::Sync(giver, taker) => self.sync(alloc, *giver, *taker),
+            Event::Sync(giver, taker) => Ok(Answer::merged(self.sync(alloc, *giver, *taker)?)),
             Event::Work {
                 replica,
                 lease,
@@ -121,21 +126,25 @@ impl World {
     ///
     /// # Errors
     /// Where memory is refused. The world is as it was.
-    pub fn tell(&mut self, alloc: Global, replica: u64, op: Op) -> Result<Answer, AllocError>
+    pub fn tell(
+        &mut self,
+        alloc: Global,
+        replica: u64,
+        op: Op,
+    ) -> Result<Result<Added, WorldRefusal>, AllocError>
         ensures program { self.new.accepted ≡ self.old.accepted }
-        ensures happens { IfOk result (λ answer. Happens (shared_program self.old) self.old.replicas
-            (Event.At replica (Act.Tell op)) answer self.new.replicas) }
+        ensures happens { IfOk result (λ told. Happens (shared_program self.old) self.old.replicas
+            (Event.At replica (Act.Tell op)) (told_answer told) self.new.replicas) }
         ensures err { OnErr result (self.new ≡ self.old) }
     {
         let Some(place) = self.boards.place_of(replica) else {
-            return Ok(if declares(self.accepted.program(), &op) {
-                Answer::NoReplica
+            return Ok(Err(if declares(self.accepted.program(), &op) {
+                WorldRefusal::NoReplica
             } else {
-                Answer::UnknownSymbol
-            });
+                WorldRefusal::UnknownSymbol
+            }));
         };
-        let reply = self.boards.tell(alloc, place, op)?;
-        Ok(Answer::Replied(reply))
+        self.boards.tell(alloc, place, op)
     }
 
     /// Tells a replica operations that are all new, one after the other, where some steps have made `rested` of their
@@ -173,59 +182,70 @@ impl World {
     ///
     /// # Errors
     /// Where memory is refused. The world is as it was.
-    pub fn merge(&mut self, alloc: Global, replica: u64, ops: &[Op]) -> Result<Answer, AllocError>
+    pub fn merge(
+        &mut self,
+        alloc: Global,
+        replica: u64,
+        ops: &[Op],
+    ) -> Result<Result<u64, WorldRefusal>, AllocError>
         ensures program { self.new.accepted ≡ self.old.accepted }
-        ensures happens { IfOk result (λ answer. Happens (shared_program self.old) self.old.replicas
-            (Event.At replica (Act.Merge ops.now)) answer self.new.replicas) }
+        ensures happens { IfOk result (λ merged. Happens (shared_program self.old) self.old.replicas
+            (Event.At replica (Act.Merge ops.now)) (merged_answer merged) self.new.replicas) }
         ensures err { OnErr result (self.new ≡ self.old) }
     {
         let Some(place) = self.boards.place_of(replica) else {
-            return Ok(if declares_all(self.accepted.program(), ops) {
-                Answer::NoReplica
+            return Ok(Err(if declares_all(self.accepted.program(), ops) {
+                WorldRefusal::NoReplica
             } else {
-                Answer::UnknownSymbol
-            });
+                WorldRefusal::UnknownSymbol
+            }));
         };
-        let reply = self.boards.merge(alloc, place, ops)?;
-        Ok(Answer::Replied(reply))
+        self.boards.merge(alloc, place, ops)
     }
 
-    /// A replica takes in what another holds and it lacks. It is the event [`Event::Sync`].
+    /// A replica takes in what another holds and it lacks, and the number of operations that are new to it is answered.
+    /// It is the event [`Event::Sync`].
     ///
     /// # Errors
     /// Where memory is refused. The world is as it was.
-    pub fn sync(&mut self, alloc: Global, giver: u64, taker: u64) -> Result<Answer, AllocError>
+    pub fn sync(
+        &mut self,
+        alloc: Global,
+        giver: u64,
+        taker: u64,
+    ) -> Result<Result<u64, WorldRefusal>, AllocError>
         ensures program { self.new.accepted ≡ self.old.accepted }
-        ensures happens { IfOk result (λ answer.
-            Happens (shared_program self.old) self.old.replicas (Event.Sync giver taker) answer self.new.replicas) }
+        ensures happens { IfOk result (λ merged. Happens (shared_program self.old) self.old.replicas
+            (Event.Sync giver taker) (merged_answer merged) self.new.replicas) }
         ensures err { OnErr result (self.new ≡ self.old) }
     {
         let Some(from) = self.boards.place_of(giver) else {
-            return Ok(Answer::NoReplica);
+            return Ok(Err(WorldRefusal::NoReplica));
         };
         let Some(to) = self.boards.place_of(taker) else {
-            return Ok(Answer::NoReplica);
+            return Ok(Err(WorldRefusal::NoReplica));
         };
-        let reply = self.boards.exchange(alloc, from, to)?;
-        Ok(Answer::Replied(reply))
+        self.boards.exchange(alloc, from, to)
     }
 
-    /// Rests a replica's pool. It is the event of [`Act::Settle`]: where memory is refused, that is the answer, and the
-    /// steps up to there stand.
-    pub fn settle(&mut self, replica: u64) -> Answer
+    /// Rests a replica's pool, and answers how many steps that took. It is the event of [`Act::Settle`].
+    ///
+    /// # Errors
+    /// Where memory is refused, with the number of steps up to there, which stand, and where there is no such replica.
+    pub fn settle(&mut self, replica: u64) -> Result<u64, NotSettled>
         ensures program { self.new.accepted ≡ self.old.accepted }
-        ensures happens { Happens (shared_program self.old) self.old.replicas (Event.At replica Act.Settle) result
-            self.new.replicas }
+        ensures happens { Happens (shared_program self.old) self.old.replicas (Event.At replica Act.Settle)
+            (settled_answer result) self.new.replicas }
     {
         let Some(place) = self.boards.place_of(replica) else {
-            return Answer::NoReplica;
+            return Err(NotSettled::NoReplica);
         };
-        Answer::Replied(self.boards.settle(place))
+        self.boards.settle(place)
     }
 
-    /// Rests a replica's pool, with all parts of it that are out, by so many workers, 1 to [`MAX_WORKERS`], and in so
-    /// many parts, 1 to [`MAX_PARTS`], as [`rest_board`](chr_workers::rest_board) does. Where there is no such replica
-    /// nothing happens.
+    /// Rests a replica's pool, with all parts of it that are out, by 1 to [`MAX_WORKERS`] workers and in 1 to
+    /// [`MAX_PARTS`] parts, as [`rest_board`](chr_workers::rest_board) does. Where there is no such replica nothing
+    /// happens.
     ///
     /// # Errors
     /// Where memory is refused. The replica has what it was told then, but parts of it may be out.
@@ -251,57 +271,43 @@ impl World {
         self.boards.rest(rt, alloc, place, workers, parts)
     }
 
-    /// Shows a replica's pool. It is the event of [`Act::Show`].
+    /// Shows a replica's pool, which this number of threads at most put in order. It is the event of [`Act::Show`].
     ///
     /// # Errors
     /// Where memory is refused.
-    pub fn show(&self, alloc: Global, replica: u64) -> Result<Answer, AllocError>
-        ensures { IfOk result (λ answer. Happens (shared_program self.now) self.now.replicas
-            (Event.At replica Act.Show) answer self.now.replicas) }
-    {
-        let Some(board) = self.board(replica) else {
-            return Ok(Answer::NoReplica);
-        };
-        let reply = show(alloc, board)?;
-        Ok(Answer::Replied(reply))
-    }
-
-    /// The same, where several threads put the pool in order.
-    ///
-    /// # Errors
-    /// Where memory is refused.
-    pub fn show_by<R: Threads + Sync>(
+    pub fn show<R: Threads + Sync>(
         &self,
         rt: &R,
         alloc: Global,
         replica: u64,
-    ) -> Result<Answer, AllocError>
-        ensures { IfOk result (λ answer. Happens (shared_program self.now) self.now.replicas
-            (Event.At replica Act.Show) answer self.now.replicas) }
+        threads: usize,
+    ) -> Result<Result<Bag, WorldRefusal>, AllocError>
+        ensures { IfOk result (λ shown. Happens (shared_program self.now) self.now.replicas
+            (Event.At replica Act.Show) (shown_answer shown) self.now.replicas) }
     {
         let Some(board) = self.board(replica) else {
-            return Ok(Answer::NoReplica);
+            return Ok(Err(WorldRefusal::NoReplica));
         };
-        let reply = show_by(rt, alloc, board)?;
-        Ok(Answer::Replied(reply))
+        show(rt, alloc, board, threads)
     }
 
-    /// Tells which ids a replica's operations have. It is the event of [`Act::Summary`].
+    /// Tells which ids a replica's operations have, where there is that replica. It is the event of [`Act::Summary`].
     ///
     /// # Errors
     /// Where memory is refused.
-    pub fn summary(&self, alloc: Global, replica: u64) -> Result<Answer, AllocError>
-        ensures { IfOk result (λ answer. Happens (shared_program self.now) self.now.replicas
-            (Event.At replica Act.Summary) answer self.now.replicas) }
+    pub fn summary(&self, alloc: Global, replica: u64) -> Result<Option<Summary>, AllocError>
+        ensures { IfOk result (λ found. Happens (shared_program self.now) self.now.replicas
+            (Event.At replica Act.Summary) (summed_answer found) self.now.replicas) }
     {
         let Some(board) = self.board(replica) else {
-            return Ok(Answer::NoReplica);
+            return Ok(None);
         };
-        let reply = summary(alloc, board)?;
-        Ok(Answer::Replied(reply))
+        let summary = board.summary(alloc)?;
+        Ok(Some(summary))
     }
 
-    /// Tells a replica's operations whose ids a summary does not cover. It is the event of [`Act::Lacks`].
+    /// Tells a replica's operations whose ids a summary does not cover, in the order of ids, where there is that
+    /// replica. It is the event of [`Act::Lacks`].
     ///
     /// # Errors
     /// Where memory is refused.
@@ -310,18 +316,18 @@ impl World {
         alloc: Global,
         replica: u64,
         summary: &Summary,
-    ) -> Result<Answer, AllocError>
-        ensures { IfOk result (λ answer. Happens (shared_program self.now) self.now.replicas
-            (Event.At replica (Act.Lacks summary.now)) answer self.now.replicas) }
+    ) -> Result<Option<Vec<Op>>, AllocError>
+        ensures { IfOk result (λ found. Happens (shared_program self.now) self.now.replicas
+            (Event.At replica (Act.Lacks summary.now)) (lacked_answer found) self.now.replicas) }
     {
         let Some(board) = self.board(replica) else {
-            return Ok(Answer::NoReplica);
+            return Ok(None);
         };
-        let reply = lacks(alloc, board, summary)?;
-        Ok(Answer::Replied(reply))
+        let ops = board.lacks(alloc, summary)?;
+        Ok(Some(ops))
     }
 
-    /// Asks a replica to do something.
+    /// Asks a replica to carry out an act.
     fn act_at(&mut self, alloc: Global, replica: u64, act: &Act) -> Result<Answer, AllocError>
         requires { FitsAct act.now }
         ensures program { self.new.accepted ≡ self.old.accepted }
@@ -330,23 +336,14 @@ impl World {
         ensures err { OnErr result (self.new ≡ self.old) }
     {
         match act {
-            Act::Tell(op) => self.tell(alloc, replica, op.copy(alloc)?),
-            Act::Merge(ops) => self.merge(alloc, replica, ops.as_slice()),
-            Act::Settle => Ok(self.settle(replica)),
-            Act::Show => self.show(alloc, replica),
-            Act::Summary => self.summary(alloc, replica),
-            Act::Lacks(summary) => self.lacks(alloc, replica, summary),
-            _ => self.step_or_lease(alloc, replica, act),
+            Act::Tell(op) => Ok(Answer::told(self.tell(alloc, replica, op.copy(alloc)?)?)),
+            Act::Merge(ops) => Ok(Answer::merged(self.merge(alloc, replica, ops.as_slice())?)),
+            _ => self.ask(alloc, replica, act),
         }
     }
 
-    /// Asks a replica to do something with a step or with leases.
-    fn step_or_lease(
-        &mut self,
-        alloc: Global,
-        replica: u64,
-        act: &Act,
-    ) -> Result<Answer, AllocError>
+    /// Asks a replica for what tells it nothing.
+    fn ask(&mut self, alloc: Global, replica: u64, act: &Act) -> Result<Answer, AllocError>
         requires act { FitsAct act.now }
         requires none { TellsNothing act.now }
         ensures program { self.new.accepted ≡ self.old.accepted }

@@ -1,5 +1,5 @@
 -- Replies to what lines ask for.
-use Rattle.std.specs.Prelude.{◌≡◌, ℕ, ◌-◌, List, ◌++◌, Result, IfOk, Some, slice_set}
+use Rattle.std.specs.Prelude.{◌≡◌, ℕ, ◌-◌, List, ◌++◌, Result, IfOk, Some, slice_set, ⊤}
 use Rattle.std.specs.declared.alloc.AllocError.{AllocError}
 use Rattle.chr_base.specs.Programs.{declarations, rules_of}
 use Rattle.chr_base.specs.declared.program.Program.{Program}
@@ -8,20 +8,26 @@ use Rattle.chr_replica.specs.Replicas.{Replica, TellsEach}
 use Rattle.chr_report.specs.Answers.{AnswersAt, AnswersShow, held_by}
 use Rattle.chr_report.specs.declared.reply.Reply.{Reply}
 use Rattle.chr_report.specs.declared.service.Service.{Service}
-use Rattle.chr_report.specs.working.ReplyTexts.{reply_text, IsWritable}
-use Rattle.chr_report.specs.working.Services.{held, served}
+use Rattle.chr_report.specs.declared.request.Request.{Request}
+use Rattle.chr_report.specs.declared.request.Request.TheVariants as request
+use Rattle.chr_report.specs.working.ReplyTexts.{reply_text}
+use Rattle.chr_report.specs.working.Services.{held, served, AreAtRest}
 
 -- Replicas of one program reply: R relates what they held, the reply's text, and what they hold then.
 pub record IsAnswered (old new : Service) (R : List Operations → List ℕ → List Operations → Type 0)
     (reply : Result Reply AllocError) : Type 0 where
   pub program : new.world.accepted ≡ old.world.accepted
-  pub writable : IfOk reply IsWritable
   pub answer : IfOk reply (λ r. R (held old) (reply_text (declarations (served old)) r) (held new))
 
 -- the replica of a number replies, where there is one
 abbrev pub IsAnsweredAt : Service → Service → ℕ → (Operations → List ℕ → Operations → Type 0)
     → Result Reply AllocError → Type 0
 IsAnsweredAt old new r R reply = IsAnswered old new (λ held. AnswersAt held r R) reply
+
+-- the replica that is to show its pool, if one is, is at rest
+abbrev pub IsReadyFor : Service → Request → Type 0
+IsReadyFor s (request.Show r) = AreAtRest s r
+IsReadyFor s _ = ⊤
 
 -- the text of the replica of a number, which stays as it is, has been added
 pub record ShowsFrom (s : Service) (r : ℕ) (before after : List ℕ) : Type 0 where

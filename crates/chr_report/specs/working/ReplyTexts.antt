@@ -1,68 +1,62 @@
 -- The texts of replies.
-use Rattle.std.specs.Prelude.{ℕ, zero, suc, List, [], ◌∷◌, ◌++◌, codes, ⊤}
+use Rattle.std.specs.Prelude.{ℕ, zero, suc, List, [], ◌∷◌, ◌++◌, codes, string_bytes, Result, Ok, Err}
 use Rattle.std.specs.Fmt.{decimal}
 use Rattle.chr_base.specs.ProgramTests.{Declaration}
+use Rattle.chr_base.specs.Stores.{Store}
 use Rattle.chr_base.specs.Texts.{store_text}
-use Rattle.chr_ops.specs.Operations.{operations_of}
+use Rattle.chr_ops.specs.declared.fault.Added.{Added}
 use Rattle.chr_ops.specs.declared.fault.Added.TheVariants as added
-use Rattle.chr_json.specs.declared.command.DeltaVersion.{DeltaVersion}
-use Rattle.chr_json.specs.declared.command.DeltaVersion.TheVariants as version
-use Rattle.chr_exchange.specs.Texts.{summary_text, HaveDifferentIds}
+use Rattle.chr_exchange.specs.Texts.{summary_text}
 use Rattle.chr_replica.specs.Refusals.{refusal_number}
-use Rattle.chr_acts.specs.declared.reply.Reply.{Reply as ActReply}
-use Rattle.chr_acts.specs.declared.reply.Reply.TheVariants as act
-use Rattle.chr_worlds.specs.declared.answer.Answer.{Answer}
-use Rattle.chr_worlds.specs.declared.answer.Answer.TheVariants as answer
+use Rattle.chr_worlds.specs.declared.refusal.WorldRefusal.{WorldRefusal}
+use Rattle.chr_worlds.specs.declared.refusal.WorldRefusal.TheVariants as denied
 use Rattle.chr_report.specs.declared.reply.Reply.{Reply}
 use Rattle.chr_report.specs.declared.reply.Reply.TheVariants as reply
 use Rattle.chr_report.specs.declared.reply.Refusal.TheVariants as refusal
-use Rattle.chr_report.specs.Answers.{delta_text_of}
-use Rattle.chr_report.specs.Replies.{refusal_text}
+use Rattle.chr_report.specs.Replies.{line_refusal_number}
 
--- the number of operations that joined stands behind a word, and a delta is of this version
-abbrev pub replied_text : List Declaration → List ℕ → DeltaVersion → ActReply → List ℕ
-replied_text ds word v (act.Told added.New) = codes "told"
-replied_text ds word v (act.Told added.Again) = codes "again"
-replied_text ds word v (act.Merged n) = word ++ decimal n
-replied_text ds word v (act.Shown s) = store_text ds s
-replied_text ds word v (act.Summed rs) = summary_text rs
-replied_text ds word v (act.Lacked os) = delta_text_of v ds (operations_of os)
-replied_text ds word v (act.Refused r) = codes "refused " ++ decimal (refusal_number r)
-replied_text ds word v _ = []
+-- the number under which a world's refusal is answered
+abbrev pub denial_number : WorldRefusal → ℕ
+denial_number (denied.Replica r) = refusal_number r
+denial_number denied.UnknownSymbol = line_refusal_number refusal.UnknownSymbol
+denial_number denied.NoReplica = line_refusal_number refusal.NoReplica
 
-abbrev pub answer_text : List Declaration → List ℕ → DeltaVersion → Answer → List ℕ
-answer_text ds word v (answer.Replied x) = replied_text ds word v x
-answer_text ds word v answer.UnknownSymbol = refusal_text refusal.UnknownSymbol
-answer_text ds word v answer.NoReplica = refusal_text refusal.NoReplica
+-- the answer of a refusal of this number
+abbrev pub number_text : ℕ → List ℕ
+number_text n = codes "refused " ++ decimal n
 
 abbrev pub reply_text : List Declaration → Reply → List ℕ
-reply_text ds (reply.Answered x) = answer_text ds (codes "merged ") version.Two x
-reply_text ds (reply.Synced x) = answer_text ds (codes "synced ") version.Two x
-reply_text ds (reply.Lacked v x) = answer_text ds (codes "merged ") v x
-reply_text ds (reply.Refused r) = refusal_text r
+reply_text ds (reply.Told added.New) = codes "told"
+reply_text ds (reply.Told added.Again) = codes "again"
+reply_text ds (reply.Merged n) = codes "merged " ++ decimal n
+reply_text ds (reply.Synced n) = codes "synced " ++ decimal n
+reply_text ds (reply.Shown store) = store_text ds store
+reply_text ds (reply.Summed ranges) = summary_text ranges
+reply_text ds (reply.Lacked text) = string_bytes text
+reply_text ds (reply.Denied r) = number_text (denial_number r)
+reply_text ds (reply.Refused r) = number_text (line_refusal_number r)
 
--- what lines are answered: nothing of steps and leases
-abbrev pub HasText : ActReply → Type 0
-HasText (act.Told a) = ⊤
-HasText (act.Merged n) = ⊤
-HasText (act.Shown s) = ⊤
-HasText (act.Summed rs) = ⊤
-HasText (act.Lacked os) = HaveDifferentIds os
-HasText (act.Refused r) = ⊤
-HasText _ = ⊥
+-- the reply to a tell
+abbrev pub told_reply : Result Added WorldRefusal → Reply
+told_reply (Ok x) = reply.Told x
+told_reply (Err r) = reply.Denied r
 
-abbrev pub HasAnswerText : Answer → Type 0
-HasAnswerText (answer.Replied x) = HasText x
-HasAnswerText answer.UnknownSymbol = ⊤
-HasAnswerText answer.NoReplica = ⊤
+-- the reply to a merge
+abbrev pub merged_reply : Result ℕ WorldRefusal → Reply
+merged_reply (Ok n) = reply.Merged n
+merged_reply (Err r) = reply.Denied r
 
-abbrev pub IsWritable : Reply → Type 0
-IsWritable (reply.Answered x) = HasAnswerText x
-IsWritable (reply.Synced x) = HasAnswerText x
-IsWritable (reply.Lacked v x) = HasAnswerText x
-IsWritable (reply.Refused r) = ⊤
+-- the reply to an exchange
+abbrev pub synced_reply : Result ℕ WorldRefusal → Reply
+synced_reply (Ok n) = reply.Synced n
+synced_reply (Err r) = reply.Denied r
 
--- so many answers of operations that were new, each with its line feed
+-- the reply to a show
+abbrev pub shown_reply : Result Store WorldRefusal → Reply
+shown_reply (Ok store) = reply.Shown store
+shown_reply (Err r) = reply.Denied r
+
+-- the answers of this number of operations that were new, each with its line feed
 abbrev pub told_lines : ℕ → List ℕ
 told_lines zero = []
 told_lines (suc n) = codes "told" ++ 10 ∷ told_lines n

@@ -46,7 +46,7 @@ pub record Asks (p : Program) (said : Result Said LineFault) (q : Request) : Typ
   pub answers : (rules : List Rule) (old : List Operations) (text : List ℕ) (new : List Operations)
       → AnswersRequest (declarations p) rules old q text new → AnswersRead (declarations p) rules old said text new
 
--- the first line of a text's last bytes asks for this, and so many bytes come after its end
+-- the first line of a text's last bytes, `left` of them, asks for this, and `more` bytes come after its end
 pub record AsksFirst (p : Program) (text : List ℕ) (left more : ℕ) (q : Request) : Type 0 where
   pub line : List ℕ
   pub first : last_bytes left text ≡ line ++ 10 ∷ last_bytes more text

@@ -1,15 +1,13 @@
 -- The replicas that answer command lines: what they hold, and what is kept of them from line to line.
-use Rattle.std.specs.Prelude.{◌≡◌, ℕ, Bool, true, false, List, All, map, ⊤}
+use Rattle.std.specs.Prelude.{◌≡◌, ℕ, Bool, true, false, List, All, map, Result, Err}
 use Rattle.std.specs.FinMap as finite
 use Rattle.chr_base.specs.declared.program.Program.{Program}
 use Rattle.chr_ops.specs.Operations.{Operation, Operations}
-use Rattle.chr_ops.specs.Summaries.{IsApart}
 use Rattle.chr_replica.specs.Replicas.{Replica, IsSettled, IsSound, TellsEach}
-use Rattle.chr_acts.specs.declared.reply.Reply.TheVariants as reply
 use Rattle.chr_worlds.specs.Worlds.{Replicas, Changes, IsAt}
 use Rattle.chr_worlds.specs.Sharing.{shared_program}
-use Rattle.chr_worlds.specs.declared.answer.Answer.{Answer}
-use Rattle.chr_worlds.specs.declared.answer.Answer.TheVariants as answer
+use Rattle.chr_worlds.specs.declared.refusal.NotSettled.{NotSettled}
+use Rattle.chr_worlds.specs.declared.refusal.NotSettled.TheVariants as unsettled
 use Rattle.chr_report.specs.declared.service.Service.{Service}
 
 -- its program
@@ -58,11 +56,6 @@ abbrev pub TellsAt : Program → Replicas → ℕ → List Operation → Replica
 TellsAt p w r ops v = Changes w r (TellsSoundly p ops) v
 
 -- memory was refused to a pool's rest
-abbrev pub was_stopped : Answer → Bool
-was_stopped (answer.Replied (reply.Stopped n)) = true
+abbrev pub was_stopped : Result ℕ NotSettled → Bool
+was_stopped (Err (unsettled.Stopped n)) = true
 was_stopped _ = false
-
--- a summary's ranges are as long as possible
-abbrev pub HasLongRanges : Answer → Type 0
-HasLongRanges (answer.Replied (reply.Summed rs)) = IsApart rs
-HasLongRanges _ = ⊤

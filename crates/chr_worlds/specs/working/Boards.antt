@@ -1,12 +1,13 @@
 -- The boards of a world as a list.
 use Rattle.std.specs.Prelude.{◌≡◌, ℕ, List, [], ◌∷◌, ◌++◌, map as each, All, Option, Some, None, slice_get, slice_set}
-use Rattle.std.specs.Prelude.{Bool, true, false, ⊤}
+use Rattle.std.specs.Prelude.{Bool, true, false, Result, Ok, ⊤}
 use Rattle.std.specs.FinMap as map
 use Rattle.chr_base.specs.Programs.{rules_of}
 use Rattle.chr_base.specs.declared.derivation.Step.{Step}
 use Rattle.chr_weights.specs.WeighedPrograms.{program_of}
 use Rattle.chr_join.specs.Parts.{Finished}
 use Rattle.chr_join.specs.declared.accepted.Accepted.{Accepted}
+use Rattle.chr_ops.specs.declared.fault.Added.{Added}
 use Rattle.chr_ops.specs.declared.fault.Added.TheVariants as added
 use Rattle.chr_ops.specs.declared.news.News.{News}
 use Rattle.chr_ops.specs.declared.range.IdRange.{IdRange}
@@ -22,10 +23,12 @@ use Rattle.chr_replica.specs.declared.rested.RestedOps.{RestedOps}
 use Rattle.chr_acts.specs.declared.act.Act.{Act}
 use Rattle.chr_acts.specs.declared.act.Act.TheVariants as act
 use Rattle.chr_acts.specs.declared.reply.Reply.{Reply}
-use Rattle.chr_acts.specs.declared.reply.Reply.TheVariants as reply
+use Rattle.chr_acts.specs.Events.{Does}
 use Rattle.chr_base.specs.declared.program.Program.{Program}
 use Rattle.chr_worlds.specs.declared.answer.Answer.{Answer}
+use Rattle.chr_worlds.specs.declared.answer.Answer.TheVariants as answer
 use Rattle.chr_worlds.specs.declared.event.Event.{Event}
+use Rattle.chr_worlds.specs.declared.refusal.WorldRefusal.{WorldRefusal}
 use Rattle.chr_worlds.specs.Worlds.{Replicas, TakesIn, Happens}
 
 -- their replicas
@@ -58,11 +61,20 @@ pub record AreLacked (m n : Operations) (ops : List Operation) : Type 0 where
   pub covers : CoversJust summary n
   pub lacked : ops ≡ lacking m summary
 
--- the board at the second place takes in what the one at the first holds and it lacks, with the reply
-pub record ExchangesAt (bs : List Held) (from to : ℕ) (x : Reply) (cs : List Held) : Type 0 where
+-- the answer is a replica's reply, of which R holds
+abbrev pub IsReplied : Answer → (Reply → Type 0) → Type 0
+IsReplied (answer.Replied x) R = R x
+IsReplied _ R = ⊥
+
+-- the board at a place does the act, and its reply is the answer
+abbrev pub RepliesAt : List Held → ℕ → Act → Answer → List Held → Type 0
+RepliesAt bs place a x cs = ChangesAt bs place (λ b t. IsReplied x (λ y. Does (program_on b) b.replica a y t)) cs
+
+-- the board at the second place takes in what the one at the first holds and it lacks, and its reply is the answer
+pub record ExchangesAt (bs : List Held) (from to : ℕ) (x : Answer) (cs : List Held) : Type 0 where
   pub giver : Held
   pub there : slice_get bs from ≡ Some giver
-  pub taken : ChangesAt bs to (λ b t. TakesIn (program_on b) giver.replica b.replica x t) cs
+  pub taken : ChangesAt bs to (λ b t. IsReplied x (λ y. TakesIn (program_on b) giver.replica b.replica y t)) cs
 
 -- the event happens, and its answer joins the answers
 pub record GainsAnswer (p : Program) (w : Replicas) (e : Event) (xs ys : List Answer) (v : Replicas) : Type 0 where
@@ -92,8 +104,8 @@ TellsNothing (act.Merge ops) = ⊥
 TellsNothing _ = ⊤
 
 -- whether a told operation was new
-abbrev pub is_told_new : Reply → Bool
-is_told_new (reply.Told added.New) = true
+abbrev pub is_told_new : Result Added WorldRefusal → Bool
+is_told_new (Ok added.New) = true
 is_told_new _ = false
 
 -- the set k holds what m does, and nothing else but operations of the list

@@ -8,7 +8,7 @@ use chr_join::Accepted;
 use chr_ops::{Added, Op};
 use chr_replica_testing::{accepted_of, op_of};
 use chr_testing::texts::{step_of, store_of, told};
-use chr_worlds::{Answer, Event, World};
+use chr_worlds::{Answer, Event, World, WorldRefusal};
 use std::alloc::Global;
 use std::process::Abort;
 use std::sync::Arc;
@@ -200,7 +200,25 @@ pub fn expect_answers(
     }
 }
 
-/// The replicas of these rows show what is expected by threads.
+/// Whether this was answered to a show by a call.
+fn is_shown(
+    rt: &impl Abort,
+    alloc: Global,
+    program: &Program,
+    shown: &Result<Bag, WorldRefusal>,
+    expected: Said,
+) -> bool {
+    match (shown, expected) {
+        (Ok(bag), Said::Shown(text)) => {
+            told(alloc, program, bag).expect(rt, "memory").as_str() == text
+        }
+        (Err(WorldRefusal::Replica(refusal)), Said::Refused(number)) => refusal.number() == number,
+        (Err(WorldRefusal::NoReplica), Said::Nobody) => true,
+        _ => false,
+    }
+}
+
+/// The replicas of these rows show what is expected by two threads.
 pub fn expect_shown(
     rt: &(impl Abort + Threads + Sync),
     alloc: Global,
@@ -208,10 +226,10 @@ pub fn expect_shown(
     rows: &[(u64, Said)],
 ) {
     for (replica, expected) in rows {
-        let answer = world.show_by(rt, alloc, *replica).expect(rt, "memory");
+        let shown = world.show(rt, alloc, *replica, 2).expect(rt, "memory");
         let program = world.program().program();
         assert!(rt;
-            is_said(rt, alloc, program, &answer, *expected),
+            is_shown(rt, alloc, program, &shown, *expected),
             "replica {replica}"
         );
     }

@@ -1,10 +1,10 @@
 //! Replicas of a world are asked by calls, and an operation goes from one to the other as messages would bring it.
-use crate::tests::asking::{Said, is_said, world_of};
-use chr_acts::{OpList, Reply};
+use crate::tests::asking::world_of;
 use chr_ops::{Added, Op, Summary};
+use chr_replica::Refusal;
 use chr_replica_testing::op_of;
-use chr_testing::texts::MINIMUM;
-use chr_worlds::{Answer, World};
+use chr_testing::texts::{MINIMUM, told};
+use chr_worlds::{NotSettled, World, WorldRefusal};
 use std::alloc::Global;
 use std::process::Abort;
 use std::thread::Threads;
@@ -13,39 +13,17 @@ fn op(rt: &impl Abort, alloc: Global, text: &str, number: u64, atoms: &str) -> O
     op_of(alloc, text, number, atoms).expect(rt, "an operation")
 }
 
-/// An answer is the expected one.
-fn expect_said(rt: &impl Abort, alloc: Global, world: &World, answer: &Answer, expected: Said) {
-    let program = world.program().program();
-    assert!(rt; is_said(rt, alloc, program, answer, expected));
-}
-
-/// The summary that is answered, where it is one.
-fn summed(answer: Answer) -> Option<Summary> {
-    match answer {
-        Answer::Replied(Reply::Summed(summary)) => Some(summary),
-        _ => None,
-    }
-}
-
-/// The operations that are answered, where it is operations.
-fn told_in(answer: Answer) -> Option<OpList> {
-    match answer {
-        Answer::Replied(Reply::Lacked(ops)) => Some(ops),
-        _ => None,
-    }
-}
-
 fn summary_of(rt: &impl Abort, alloc: Global, world: &World, replica: u64) -> Summary {
-    let answer = world.summary(alloc, replica).expect(rt, "memory");
-    summed(answer).expect(rt, "a summary")
+    let found = world.summary(alloc, replica).expect(rt, "memory");
+    found.expect(rt, "such a replica")
 }
 
 /// What the first replica holds and the second lacks: `count` operations.
-fn lacked(rt: &impl Abort, alloc: Global, world: &World, count: usize) -> OpList {
+fn lacked(rt: &impl Abort, alloc: Global, world: &World, count: usize) -> Vec<Op> {
     let summary = summary_of(rt, alloc, world, 2);
-    let answer = world.lacks(alloc, 1, &summary).expect(rt, "memory");
-    let ops = told_in(answer).expect(rt, "operations");
-    assert!(rt; ops.as_slice().len() == count, "{count}");
+    let found = world.lacks(alloc, 1, &summary).expect(rt, "memory");
+    let ops = found.expect(rt, "such a replica");
+    assert!(rt; ops.len() == count, "{count}");
     ops
 }
 
@@ -54,10 +32,35 @@ fn told_world(rt: &(impl Abort + Threads + Sync), alloc: Global) -> World {
     let mut world = world_of(rt, alloc, MINIMUM, 2);
     for (replica, number, atoms) in [(1, 1, "min(5)"), (1, 2, "min(3)"), (2, 1, "min(5)")] {
         let op = op(rt, alloc, MINIMUM, number, atoms);
-        let answer = world.tell(alloc, replica, op).expect(rt, "memory");
-        expect_said(rt, alloc, &world, &answer, Said::Told(Added::New));
+        let told = world.tell(alloc, replica, op).expect(rt, "memory");
+        assert!(rt; matches!(told, Ok(Added::New)), "{replica} {number}");
     }
     world
+}
+
+/// The replica can't be shown, since a rule has a step in its pool.
+fn expect_unsettled(
+    rt: &(impl Abort + Threads + Sync),
+    alloc: Global,
+    world: &World,
+    replica: u64,
+) {
+    let shown = world.show(rt, alloc, replica, 1).expect(rt, "memory");
+    assert!(rt; matches!(shown, Err(WorldRefusal::Replica(Refusal::NotAtRest))));
+}
+
+/// The replica shows the store of this text.
+fn expect_store(
+    rt: &(impl Abort + Threads + Sync),
+    alloc: Global,
+    world: &World,
+    replica: u64,
+    text: &str,
+) {
+    let shown = world.show(rt, alloc, replica, 1).expect(rt, "memory");
+    let store = shown.ok().expect(rt, "a store");
+    let written = told(alloc, world.program().program(), &store).expect(rt, "memory");
+    assert!(rt; written.as_str() == text, "{text}");
 }
 
 #[test]
@@ -65,13 +68,24 @@ fn what_is_lacked_is_merged_rested_and_shown(rt: HostRuntime) {
     let alloc = rt.alloc();
     let mut world = told_world(&rt, alloc);
     let ops = lacked(&rt, alloc, &world, 1);
-    let merged = world.merge(alloc, 2, ops.as_slice()).expect(&rt, "memory");
-    expect_said(&rt, alloc, &world, &merged, Said::Merged(1));
+    let merged = world.merge(alloc, 2, &ops).expect(&rt, "memory");
+    assert!(rt; matches!(merged, Ok(1)));
     lacked(&rt, alloc, &world, 0);
-    let early = world.show(alloc, 2).expect(&rt, "memory");
-    expect_said(&rt, alloc, &world, &early, Said::Refused(40));
-    let settled = world.settle(2);
-    expect_said(&rt, alloc, &world, &settled, Said::Settled(1));
-    let shown = world.show(alloc, 2).expect(&rt, "memory");
-    expect_said(&rt, alloc, &world, &shown, Said::Shown("min(3)"));
+    expect_unsettled(&rt, alloc, &world, 2);
+    assert!(rt; matches!(world.settle(2), Ok(1)));
+    expect_store(&rt, alloc, &world, 2, "min(3)");
+}
+
+#[test]
+fn calls_on_a_missing_replica_find_none(rt: HostRuntime) {
+    let alloc = rt.alloc();
+    let mut world = told_world(&rt, alloc);
+    let summary = summary_of(&rt, alloc, &world, 1);
+    assert!(rt; matches!(world.settle(3), Err(NotSettled::NoReplica)));
+    assert!(rt; matches!(world.summary(alloc, 3), Ok(None)));
+    assert!(rt; matches!(world.lacks(alloc, 3, &summary), Ok(None)));
+    let told = world.tell(alloc, 3, op(&rt, alloc, MINIMUM, 3, "min(1)"));
+    assert!(rt; matches!(told, Ok(Err(WorldRefusal::NoReplica))));
+    let synced = world.sync(alloc, 1, 3);
+    assert!(rt; matches!(synced, Ok(Err(WorldRefusal::NoReplica))));
 }

@@ -1,23 +1,23 @@
-use Rattle.std.proofs.Common.{codes, refl}
-use Rattle.chr_base.specs.Programs.{declarations}
-use Rattle.chr_json.specs.declared.command.DeltaVersion.TheVariants as version
-use Rattle.chr_acts.specs.declared.act.Act.TheVariants as act
-use Rattle.chr_worlds.specs.declared.event.Event.TheVariants as event
+use Rattle.std.proofs.Common.{refl}
 use Rattle.chr_report.specs.working.Services.{served}
-use Rattle.chr_report.proofs.Reading.{summary_answers}
-use Rattle.chr_report.proofs.Writable.{happens_written}
+use Rattle.chr_report.proofs.Reading.{none_summed, summary_answers}
 use Rattle.chr_report.proofs.service.Service.summary.Goals as goal
 
 pub returns : goal.returns
 returns c =
+    let w = c.args.self.now.world.replicas in
     record {
       program = refl;
-      writable =
-          happens_written (served c.args.self.now) c.args.self.now.world.replicas c.args.self.now.world.replicas
-          (event.At c.args.replica act.Summary) c.in_ok-answer.answer tt c.in_ok-answer.ensures;
       answer =
-          summary_answers (declarations (served c.args.self.now)) (codes "merged ") version.Two
-          (served c.args.self.now) c.args.self.now.world.replicas c.args.self.now.world.replicas c.args.replica
-          c.in_ok-answer.answer
-          c.look_into.ensures c.in_ok-answer.ensures;
+          summary_answers (served c.args.self.now) w w c.args.replica c.in_ok-found.found c.in-Some.summary
+          c.in-Some.is c.ranges-ranges.ensures.apart c.in_ok-found.ensures;
+    }
+
+pub returns-in_default : goal.returns-in_default
+returns-in_default c =
+    let w = c.args.self.now.world.replicas in
+    record {
+      program = refl;
+      answer = none_summed (served c.args.self.now) w w c.args.replica c.in_ok-found.found c.in_default.is
+          c.in_ok-found.ensures;
     }

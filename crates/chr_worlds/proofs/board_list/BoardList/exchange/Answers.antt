@@ -1,4 +1,5 @@
 use Rattle.std.proofs.Common.{sym, subst}
+use Rattle.chr_worlds.specs.Answers.{merged_answer}
 use Rattle.chr_worlds.specs.working.Boards.{ExchangesAt}
 use Rattle.chr_worlds.proofs.Gaining.{holds_all}
 use Rattle.chr_worlds.proofs.Places.{takes_in}
@@ -9,14 +10,15 @@ keep_met-requires c = λ n is.
     let bs = c.args.self.now in
     let cs = c.merge.new.self in
     let exchanged = takes_in bs cs c.args.giver c.args.taker c.in_ok-ops.ops.items c.deref.result.now
-    c.in_ok-reply.reply c.in_ok-ops.ensures c.deref.ensures.value c.in_ok-reply.ensures.ok in
+    (merged_answer c.in_ok-merged.merged) c.in_ok-ops.ensures c.deref.ensures.value c.in_ok-merged.ensures.ok in
     holds_all c.exchange_laws.ensures.exchange bs cs c.args.giver c.args.taker n
-    (subst (λ x. ExchangesAt bs c.args.giver c.args.taker x cs) is exchanged)
+    (subst (λ x. ExchangesAt bs c.args.giver c.args.taker (merged_answer x) cs) is exchanged)
 
 pub returns-clause-ok : goal.returns-clause-ok
 returns-clause-ok c =
     let bs = c.args.self.now in
     let cs = c.merge.new.self in
     let exchanged = takes_in bs cs c.args.giver c.args.taker c.in_ok-ops.ops.items c.deref.result.now
-    c.in_ok-reply.reply c.in_ok-ops.ensures c.deref.ensures.value c.in_ok-reply.ensures.ok in
-    subst (ExchangesAt bs c.args.giver c.args.taker c.in_ok-reply.reply) (sym c.keep_met.ensures) exchanged
+    (merged_answer c.in_ok-merged.merged) c.in_ok-ops.ensures c.deref.ensures.value c.in_ok-merged.ensures.ok in
+    subst (ExchangesAt bs c.args.giver c.args.taker (merged_answer c.in_ok-merged.merged)) (sym c.keep_met.ensures)
+    exchanged

@@ -8,5 +8,5 @@ invariant_of-self c =
     met_on c.self.inside.news c.met.new.self c.args.giver c.args.taker c.self.inside.boards.items c.met.ensures.met
     c.met.ensures.takers c.met.ensures.others
     (subst (λ bs. HoldsAllOf bs c.args.giver c.args.taker) (sym c.self.view_is)
-    (c.requires c.in-Merged.field-0 c.in-Merged.is))
+    (c.requires c.in-Ok.field-0 c.in-Ok.is))
     c.self.invariant

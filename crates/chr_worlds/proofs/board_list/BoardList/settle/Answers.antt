@@ -1,8 +1,8 @@
 use Rattle.chr_acts.specs.declared.act.Act.TheVariants as act
-use Rattle.chr_acts.specs.Events.{Does}
 use Rattle.chr_replica.specs.Boards.{program_on}
-use Rattle.chr_worlds.proofs.Gaining.{does_alike, stays_true}
-use Rattle.chr_worlds.proofs.Places.{changed_there, found_there}
+use Rattle.chr_worlds.specs.Answers.{settled_answer}
+use Rattle.chr_worlds.proofs.Gaining.{replied_alike, stays_true}
+use Rattle.chr_worlds.proofs.Places.{found_there, replies_there}
 use Rattle.chr_worlds.proofs.board_list.BoardList.settle.Goals as goal
 
 pub invariant_of-self : goal.invariant_of-self
@@ -12,11 +12,12 @@ invariant_of-self c =
     let d = c.settle.new.board in
     stays_true c.self.inside.news bs c.args.place b d
     (found_there c.args.self.now bs c.args.place b c.self.view_is c.requires c.index_mut.ensures.value)
-    (does_alike (program_on b) b.replica act.Settle c.settle.result d.replica tt c.settle.ensures.does)
+    (replied_alike (program_on b) b.replica act.Settle (settled_answer c.settle.result) d.replica tt
+    c.settle.ensures.settled)
     c.self.invariant
 
 pub returns : goal.returns
 returns c =
-    changed_there c.args.self.now c.self.inside.boards.items c.args.place c.index_mut.result.now c.settle.new.board
-    (λ b t. Does (program_on b) b.replica act.Settle c.settle.result t) c.self.view_is c.requires
-    c.index_mut.ensures.value c.settle.ensures.program c.settle.ensures.does
+    replies_there c.args.self.now c.self.inside.boards.items c.args.place c.index_mut.result.now c.settle.new.board
+    act.Settle (settled_answer c.settle.result) c.self.view_is c.requires c.index_mut.ensures.value
+    c.settle.ensures.program c.settle.ensures.settled

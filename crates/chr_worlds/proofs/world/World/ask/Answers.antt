@@ -1,6 +1,6 @@
 use Rattle.chr_acts.specs.Events.{Does}
 use Rattle.chr_worlds.proofs.Places.{happens_at}
-use Rattle.chr_worlds.proofs.world.World.step_or_lease.Goals as goal
+use Rattle.chr_worlds.proofs.world.World.ask.Goals as goal
 
 pub returns-clause-happens : goal.returns-clause-happens
 returns-clause-happens c =

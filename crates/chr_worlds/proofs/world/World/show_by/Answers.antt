@@ -1,8 +1,0 @@
-use Rattle.chr_acts.specs.declared.act.Act.TheVariants as act
-use Rattle.chr_worlds.proofs.Places.{asked_at}
-use Rattle.chr_worlds.proofs.world.World.show_by.Goals as goal
-
-pub returns : goal.returns
-returns g c =
-    asked_at c.args.self.now c.args.replica c.in-Some.board.now act.Show c.in_ok-reply.reply
-    c.in-Some.ensures.replica c.in-Some.ensures.program c.in_ok-reply.ensures
