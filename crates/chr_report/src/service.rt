@@ -54,8 +54,8 @@ const MOST_BETWEEN: u64 = 8 * WORTH_SHARING;
 /// more: they cut all of it.
 const LEAST_SHARE: u64 = 4;
 
-/// Tells are rested by the threads that read them as long as at most one atom in this number stays: what stays is rested
-/// once more.
+/// Tells are rested by the threads that read them as long as at most one atom in this number stays. What stays is
+/// rested once more.
 const MOST_STAYING: u64 = 2;
 
 /// Replicas are counted from here.
