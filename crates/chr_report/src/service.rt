@@ -212,8 +212,8 @@ impl Service {
         }
     }
 
-    /// Records `came` told atoms, which had been rested, and `more` atoms that wait. If the part that was carried to them
-    /// was no longer leased out, what comes of it can't be carried on either, so a new stretch begins.
+    /// Records `came` told atoms, which had been rested, and `more` atoms that wait. If the part that was carried to
+    /// them was no longer leased out, what comes of it can't be carried on either, so a new stretch begins.
     fn note_rested(&mut self, tells: &Tells, came: u64, more: u64)
         ensures { self.new.world ≡ self.old.world }
     {
