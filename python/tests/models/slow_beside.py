@@ -45,7 +45,7 @@ def smallest(apart: set[Columns], key: Columns) -> list[Columns]:
     """Those outside the key of which no part is one of them, by column 1 as 1, column 2 as 2, column 3 as 4."""
     outside = [columns for columns in apart if columns and not columns & key]
     least = [columns for columns in outside if not any(other < columns for other in outside)]
-    return sorted(least, key=lambda columns: sum(2 ** (column - 1) for column in columns))
+    return sorted(least, key=lambda columns: sum(1 << (column - 1) for column in columns))
 
 
 def in_words(columns: Columns) -> str:
