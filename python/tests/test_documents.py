@@ -23,7 +23,7 @@ from chrrep.node import program_path
 
 TOP = Path(__file__).resolve().parents[2]
 EXAMPLES = TOP / "examples"
-FIRST_FORMS = TOP / "python" / "tests" / "explanations"
+FIRST_FORMS = TOP / "python" / "tests" / "rows" / "explanations"
 SECONDS = 60.0
 
 # each document with the least number of its commands

@@ -13,7 +13,7 @@ from slow_reader import Fault, read
 from slow_verdict import GREATEST, LEAST, Program
 
 HERE = Path(__file__).resolve().parent
-FOLDERS = (HERE.parent / "explanations", HERE.parents[2] / "examples")
+FOLDERS = (HERE.parent / "rows" / "explanations", HERE.parents[2] / "examples")
 TEXTS = [path.read_bytes() for folder in FOLDERS for path in sorted(folder.glob("*.chr"))]
 TEXTS = [text for text in TEXTS if len(text) < 5_000]
 TEXTS += [text.encode() for text, _ in (*rows.FAULTS, *rows.ACCEPTED, *rows.ACCEPTED_TEXTS)]

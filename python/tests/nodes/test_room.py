@@ -87,7 +87,7 @@ class Readings(unittest.TestCase):
 
     def test_texts_of_the_repository(self) -> None:
         read = 0
-        for path in (*HERE.parents[2].glob("examples/**/*.chr"), *HERE.parent.glob("explanations/*.chr")):
+        for path in (*HERE.parents[2].glob("examples/**/*.chr"), *HERE.parent.glob("rows/explanations/*.chr")):
             text = program_bytes(path)
             try:
                 self.is_read(text, slow_reader.read(text))

@@ -18,7 +18,7 @@ from rule_texts import read_program, replaced, store
 from slow_verdict import Pattern, Program, TooManyTypes, TooSlow, is_at_rest, smallest_failing, store_text
 
 TEXTS = Path(__file__).resolve().parent / "explanations"
-EXAMPLES = Path(__file__).resolve().parents[2] / "examples"
+EXAMPLES = Path(__file__).resolve().parents[3] / "examples"
 OPTIONS = {
     ".out": (),
     ".all": ("--all",),
