@@ -24,13 +24,12 @@ import shlex
 import subprocess
 import sys
 import tempfile
-import time
 from collections.abc import Sequence
 from dataclasses import dataclass
 from pathlib import Path
 
 import workloads
-from figures import HERE, peak_text
+from measure import HERE, Run, best, least_peak, peak_text, run
 
 LEAST_WORK = 1e-4
 VERDICT = b"accepted: "
@@ -83,15 +82,6 @@ PHASES = ("Read", "other", "Rested", "other", "Shown", "other")
 
 
 @dataclass(frozen=True)
-class Run:
-    """What runs of one input took: seconds of a processor and of a clock, and the peak of memory."""
-
-    processor: float
-    clock: float
-    peak: int
-
-
-@dataclass(frozen=True)
 class Programs:
     ours: Sequence[str]
     other: Sequence[str]
@@ -103,28 +93,12 @@ class Programs:
         return [*self.ours, "run", *work.options()], [*self.other, *replicas]
 
 
-def run(words: Sequence[str], given: Path, told: Path) -> Run:
-    with given.open("rb") as source, told.open("wb") as out:
-        start = time.monotonic()
-        started = subprocess.Popen(words, stdin=source, stdout=out, stderr=subprocess.DEVNULL)
-        _, status, used = os.wait4(started.pid, 0)
-        clock = time.monotonic() - start
-    started.returncode = os.waitstatus_to_exitcode(status)
-    if started.returncode:
-        sys.exit(f"beside: {shlex.join(words)} ended with {started.returncode}")
-    return Run(used.ru_utime + used.ru_stime, clock, used.ru_maxrss)
-
-
 def answers(told: Path) -> bytes:
     """A digest of all that was answered. No whole line is held, as it would count for a peak of what is run next."""
     with told.open("rb") as file:
         if not file.readline(256).startswith(VERDICT):
             file.seek(0)
         return hashlib.file_digest(file, "sha256").digest()
-
-
-def best(runs: Sequence[Run]) -> Run:
-    return Run(min(run.processor for run in runs), min(run.clock for run in runs), max(run.peak for run in runs))
 
 
 def less(runs: Sequence[Run], others: Sequence[Run]) -> list[float]:
@@ -138,7 +112,7 @@ class Bench:
     def __init__(self, programs: Programs, times: int, reading: bool, folder: Path) -> None:
         self.programs, self.times, self.reading, self.folder = programs, times, reading, folder
         self.given = folder / "given"
-        self.floor = 1.02 * run(["true"], Path(os.devnull), folder / "told").peak
+        self.floor = least_peak(folder)
 
     def write(self, name: str, count: int, *options: str) -> None:
         """By a process of its own, so that this one stays small: what it runs begins with its peak."""

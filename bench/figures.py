@@ -1,24 +1,27 @@
 #!/usr/bin/env python3
-"""Times `chrrep run` on inputs of `generate.py`, and then of `workloads.py`, and writes a table of each.
+"""Measures a release, and writes the tables of README.md.
 
-    figures.py PROGRAM [--count 1000000] [--times 3]
+    figures.py PROGRAM [OTHER] [--times 3] [--only NAME,..]
 
-Each input is run TIMES times. A row has the least seconds of a clock, the greatest peak of memory, and the first line
-that was written, which is the verdict. Facts of `workloads.py` are COUNT in number. A peak below that of Python itself,
-whose process becomes that of the program, can't be told.
+Texts and lines are those of `generate.py`, facts those of `workloads.py`. Instructions are those of one run, which no
+other work disturbs: of facts a tenth as many are told, and what the same program text takes without facts is left out.
+They are not told where valgrind isn't installed, or takes longer than two minutes. Seconds are those of all processors,
+the least of TIMES runs, and memory is the greatest. OTHER is a command line, for which `--replicas N` is added where
+there are several; it reads the same facts.
 """
 
 import argparse
-import os
+import shlex
 import subprocess
 import sys
 import tempfile
-import time
-from collections.abc import Sequence
-from dataclasses import dataclass
+from collections.abc import Iterator, Sequence
 from pathlib import Path
 
-HERE = Path(__file__).resolve().parent
+import beside
+import workloads
+from measure import HERE, best, instructions, least_peak, peak_text, run
+
 TEXTS = (
     "rules",
     "names",
@@ -45,77 +48,93 @@ LINES = (
     "paths 100000",
     "exchange 100000",
 )
-FACTS = (
-    "falling",
-    "rising",
-    "routes",
-    "one_key",
-    "many_keys",
-    "all_keys",
-    "bids",
-    "settings",
-    "revoked",
-    "pairs",
-    "threes",
-)
 OPTIONS = {"exchange": ("--replicas", "8")}
-MEGABYTE = 1_000
-"""So many of the units in which the system tells the peak of memory."""
+TENTH = 10
+MILLION = 1_000_000
+
+Row = list[str]
 
 
-@dataclass(frozen=True)
+def text_of(count: float | None) -> str:
+    """A count of instructions, in millions where it is that of a run."""
+    return "" if count is None else f"{count:,.0f}"
+
+
 class Figures:
-    seconds: float
-    peak: int
-    first: str
+    """A release, maybe another program, and what is the same for each input."""
 
+    def __init__(self, program: str, other: Sequence[str], times: int, folder: Path) -> None:
+        self.programs = beside.Programs([program], other)
+        self.program, self.times, self.folder = program, times, folder
+        self.given = folder / "given"
+        self.least = least_peak(folder)
 
-def figures(words: Sequence[str], given: Path) -> Figures:
-    with given.open("rb") as source, tempfile.TemporaryFile() as told:
-        start = time.monotonic()
-        run = subprocess.Popen(words, stdin=source, stdout=told)
-        _, status, used = os.wait4(run.pid, 0)
-        seconds = time.monotonic() - start
-        run.returncode = os.waitstatus_to_exitcode(status)
-        if run.returncode > 1 or run.returncode < 0:
-            raise SystemExit(f"{' '.join(words)} ended with {run.returncode}")
-        told.seek(0)
-        return Figures(seconds, used.ru_maxrss, told.readline().decode().rstrip("\n"))
+    def write(self, script: str, *words: str) -> None:
+        """By a process of its own, so that this one stays small: what it runs begins with its peak."""
+        with self.given.open("wb") as out:
+            subprocess.run([sys.executable, str(HERE / script), *words], stdout=out, check=True)
 
+    def text_row(self, name: str) -> Row:
+        self.write("generate.py", *name.split())
+        words = [self.program, "run", *OPTIONS.get(name.split()[0], ())]
+        told = self.folder / "told"
+        took = best([run(words, self.given, told) for _ in range(self.times)])
+        count = instructions(words, self.given)
+        with told.open("rb") as file:
+            verdict = file.readline().decode().rstrip("\n")
+        seconds = "under 0.01" if took.processor < 0.01 else f"{took.processor:.2f}"
+        counted = text_of(None if count is None else count / MILLION)
+        size = f"{self.given.stat().st_size:,}"
+        return [f"`{name}`", size, counted, seconds, peak_text(took.peak, self.least), f"`{verdict}`"]
 
-def peak_text(peak: float, least: float) -> str:
-    if peak <= least:
-        return f"under {least / MEGABYTE + 1:.0f} MB"
-    return f"{peak / MEGABYTE:.0f} MB"
+    def for_each(self, name: str, count: int) -> list[float | None]:
+        """How many instructions each program takes for one fact."""
+        counts = []
+        for facts in (0, count // TENTH):
+            self.write("workloads.py", name, str(facts))
+            counts.append([instructions(words, self.given) for words in self.words(name)])
+        pairs = zip(*counts, strict=True)
+        return [None if a is None or b is None else (b - a) / (count // TENTH) for a, b in pairs]
 
+    def words(self, name: str) -> list[list[str]]:
+        ours, others = self.programs.words(name)
+        return [ours, others] if self.programs.other else [ours]
 
-def row(program: str, script: str, words: str, times: int, folder: Path) -> str:
-    given = folder / "input"
-    with given.open("wb") as out:
-        subprocess.run([sys.executable, str(HERE / script), *words.split()], stdout=out, check=True)
-    options = OPTIONS.get(words.split()[0], ())
-    runs = [figures([program, "run", *options], given) for _ in range(times)]
-    least = min(run.seconds for run in runs)
-    seconds = "under 0.01" if least < 0.01 else f"{least:.2f}"
-    peak = peak_text(max(run.peak for run in runs), 1.02 * figures(["true"], given).peak)
-    return f"| `{words}` | {given.stat().st_size:,} | {seconds} | {peak} | `{runs[0].first}` |"
+    def fact_row(self, name: str) -> Row:
+        count = beside.GOALS[name].count
+        each = self.for_each(name, count)
+        self.write("workloads.py", name, str(count))
+        took = [best([run(it, self.given, self.folder / "told") for _ in range(self.times)]) for it in self.words(name)]
+        row = [workloads.WORKLOADS[name].title, f"{count:,}", *map(text_of, each)]
+        if len(each) > 1:
+            row.append(f"{each[0] / each[1]:.2f}" if each[0] and each[1] else "")
+        return [*row, *(f"{it.processor:.2f}" for it in took), *(peak_text(it.peak, self.least) for it in took)]
+
+    def tables(self, wanted: Sequence[str]) -> Iterator[Row]:
+        others = ["other"] if self.programs.other else []
+        ratio = ["Ratio"] if others else []
+        yield ["Input", "Bytes", "Million instructions", "Seconds", "Peak memory", "Verdict"]
+        yield from (self.text_row(name) for name in TEXTS + LINES if not wanted or name in wanted)
+        yield []
+        yield ["Input", "Facts", "Instructions a fact", *others, *ratio, "Seconds", *others, "Peak memory", *others]
+        yield from (self.fact_row(name) for name in beside.GOALS if not wanted or name in wanted)
 
 
 def main() -> int:
     words = argparse.ArgumentParser(description=__doc__, formatter_class=argparse.RawDescriptionHelpFormatter)
     words.add_argument("program")
-    words.add_argument("--count", type=int, default=1_000_000)
+    words.add_argument("other", nargs="?", default="")
     words.add_argument("--times", type=int, default=3)
+    words.add_argument("--only", default="")
     said = words.parse_args()
-    kinds = (
-        ("generate.py", TEXTS + LINES),
-        ("workloads.py", tuple(f"{name} {said.count}" for name in FACTS)),
-    )
     with tempfile.TemporaryDirectory() as folder:
-        for script, inputs in kinds:
-            print("\n| Input | Bytes | Seconds | Peak memory | Verdict |\n|---|---|---|---|---|")
-            for name in inputs:
-                print(row(said.program, script, name, said.times, Path(folder)), flush=True)
+        figures = Figures(said.program, shlex.split(said.other), said.times, Path(folder))
+        is_head = True
+        for row in figures.tables([name for name in said.only.split(",") if name]):
+            print(f"| {' | '.join(row)} |" if row else "", flush=True)
+            if is_head:
+                print("|---" * len(row) + "|", flush=True)
+            is_head = not row
     return 0
 
 

@@ -19,11 +19,14 @@ from .words import Symbols, symbol_words, symbols_of
 
 T = TypeVar("T")
 
-_NAMING = re.compile(r"[^%]*%+\s*chr_columns\b(.*)", re.DOTALL)
+_NAMING = re.compile(r"[^%]*%+\s*chr_columns\b(.*)", re.ASCII | re.DOTALL)
 _NAMED = re.compile(r"\s*([a-z]\w*)\s*\(([^()]*)\)\s*(,|\.?\s*\Z)", re.ASCII)
-_NAME = re.compile(r"[a-z]\w*", re.ASCII)
+_NAME = re.compile(r"[a-z]\w{0,31}", re.ASCII)
+_LAYOUT = " \t\n\r\f\v"
+"""White space of ASCII, as `explain` reads it."""
 _ORDER = re.compile("[<>]")
 _VARIABLE = re.compile(r"\b(?:[A-Z]|_\w)\w*", re.ASCII)
+_COLUMN = "that is a word of at most 32 letters, digits and `_`, with a small letter first"
 _MOST_FAULTS = 20
 _LONGEST_SHOWN = 40
 
@@ -117,13 +120,13 @@ class Columns:
             if not found:
                 yield f"{_shown(text)!r} names no columns: `% chr_columns seen(parcel, time, place)` does"
                 return
-            yield from self._name(found[1], [name.strip() for name in found[2].split(",")])
+            yield from self._name(found[1], [name.strip(_LAYOUT) for name in found[2].split(",")])
             at, more = found.end(), found[3]
 
     def _name(self, symbol: str, names: list[str]) -> Iterator[str]:
         bad = next((name for name in names if not _NAME.fullmatch(name)), None)
         if bad is not None:
-            yield f"{_shown(bad)!r} is no name of a column: that is a word with a small first letter"
+            yield f"{_shown(bad)!r} is no name of a column: {_COLUMN}"
         elif len(names) not in self.symbols.get(symbol, []):
             yield symbol_words(symbol, len(names), self.symbols)
         elif len(set(names)) < len(names):

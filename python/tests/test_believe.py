@@ -221,6 +221,12 @@ class Believe(unittest.TestCase):
         called = [line.rpartition(" ")[2] for line in told.splitlines()]
         self.assertEqual((status, called), (0, ["one::shown", "one::make", "one::Thing::grow"]))
 
+    def test_methods_in_another_file(self) -> None:
+        """A method is public where its type is, although its own file is not."""
+        self.write("one/src/hidden.rt", HIDDEN + "\nimpl Thing {\n    pub fn keep(&self)\n    {\n    }\n}\n")
+        told = self.ran("--clauses", "one")[1].splitlines()
+        self.assertEqual(told[:2], ["one::shown: ensures", "one::Thing::keep"])
+
     def test_a_table(self) -> None:
         rows = (
             "| Contract | Definitions | Lines | With what the types keep | Lines |\n|---|---|---|---|---|\n"
@@ -228,6 +234,22 @@ class Believe(unittest.TestCase):
             "| `one::Thing::grow` | 1 | 2 | 3 | 6 |\n"
         )
         self.assertEqual(self.ran("--table", "one::make.even", "grow"), (0, rows, ""))
+
+    def test_names_of_clauses(self) -> None:
+        """A line for each public function; of a clause without a name its kind alone is told."""
+        methods = "one::Thing::grow: ensures grown\n"
+        lines = "one::shown: ensures\none::make: requires few; ensures even, below, shaped\n" + methods
+        self.assertEqual(self.ran("--clauses", "one"), (0, lines, ""))
+        self.assertEqual(self.ran("--clauses", "one::things::Thing"), (0, methods, ""))
+
+    def test_where_a_word_is_defined(self) -> None:
+        """In files of definitions alone, each of them; a variable of a pattern is none."""
+        self.write("two/specs/working/Sizes.antt", "pub IsSmall : ℕ → Type 0\nIsSmall n = Unit\n")
+        self.write("two/proofs/Sizes.antt", "pub IsSmall : ℕ → Type 0\nIsSmall n = Unit\n")
+        places = ("crates/one/specs/Sizes.antt:7", "crates/two/specs/working/Sizes.antt:1")
+        told = "".join(f"{place}: IsSmall, 2 lines\n" for place in places)
+        self.assertEqual(self.ran("--where", "IsSmall"), (0, told, ""))
+        self.assertEqual(self.ran("--where", "small"), (1, "", "believe: no file of definitions defines small\n"))
 
     def test_words_that_are_not_found(self) -> None:
         """A warning tells each, and the rest is told."""

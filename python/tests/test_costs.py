@@ -37,6 +37,9 @@ ROOMS = (*range(5_500, 8_000, 250), *range(8_000, 20_001, 3_000))
 SQUARE = 32.0
 """The time of three heads whose guards stand apart may grow by so much: halfway between the square and the cube."""
 
+SPACED, SPACED_TELLS = 1.5, 100_000
+"""So many times what tells of so many atoms take may they take with a space after each comma, as Python writes them."""
+
 THREAD_ROOMS = (16_000, 66_000, 131_000, 200_000, 300_000)
 """Limits under which the threads of a verdict get no heaps of their own, or not all of them do."""
 
@@ -384,6 +387,16 @@ class Costs(unittest.TestCase):
         self.assertEqual((ordered.status, disordered.status), (0, 0))
         self.assertEqual(ordered.output.splitlines()[-1], disordered.output.splitlines()[-1])
         self.assertLessEqual(disordered.seconds, DISORDER * max(ordered.seconds, FLOOR))
+
+    def test_lines_with_spaces(self) -> None:
+        text, lines = routes(SPACED_TELLS).split("---", 1)
+        given = "---".join((text, lines)), "---".join((text, lines.replace(",", ", ")))
+        plain, spaced = (
+            min((run_of(("run",), one) for _ in range(RUNS)), key=lambda end: end.seconds) for one in given
+        )
+        self.assertEqual((plain.status, plain.output), (spaced.status, spaced.output))
+        self.assertLessEqual(spaced.seconds, SPACED * max(plain.seconds, FLOOR))
+        print(f"({spaced.seconds / max(plain.seconds, FLOOR):.2f})", end=" ", flush=True)
 
     def bytes_shown(self, values: Iterable[int]) -> float:
         """How many bytes of memory a service takes more than ever before, for each atom that it shows."""

@@ -58,6 +58,7 @@ READ = 16_384
 BLOCK = 524_288
 MOST_LINES = 65_536
 LEAST_RESTED = 131_072
+MANY_ROWS = 25_600
 MAX_TOLD = 1_000_000
 MAX_LINE = 1_048_576
 Line = tuple[str, str]
@@ -127,6 +128,23 @@ class Workers(unittest.TestCase):
         for workers, parts in ((1, 1), (1, 16), (4, 1), (2, 3), (4, 16), (16, 64)):
             self.expect("run", workers, parts, input_of(lines), output)
         self.expect("serve", 4, 16, input_of(lines), output)
+
+    def test_many_rows_that_stay(self) -> None:
+        """So many in no order that several threads print them."""
+        rows_of: list[tuple[str, tuple[int, ...]]] = []
+        for place in range(MANY_ROWS):
+            value = place * 7_919 % MANY_ROWS
+            rows_of.append(("b", (value, -1)) if place % 3 == 0 else ("a", (value - 5_000,)))
+        atoms = [[name, *args] for name, args in rows_of]
+        tells = [["tell", 1, [1, start], atoms[start : start + 64]] for start in range(0, MANY_ROWS, 64)]
+        lines = [json.dumps(it, separators=(",", ":")) for it in (*tells, ["show", 1])]
+        given = "".join(f"{line}\n" for line in (":- chr_constraint b/2, a/1.", "---", *lines))
+        shown = ", ".join(f"{name}({','.join(map(str, args))})" for name, args in sorted(rows_of))
+        output = "accepted: rules 0, cases 0\n" + "told\n" * len(tells) + f"{shown}\n"
+        for workers in (1, 3, 16):
+            with self.subTest(workers=workers):
+                status, written = done(("run", "--workers", str(workers)), given)
+                self.assertEqual((status, first_apart(written, output)), (0, None))
 
     def test_shows_between(self) -> None:
         """What came in before a show is rested then, and what comes after it later."""

@@ -6,6 +6,8 @@
     tools/believe chr_read                              a crate: those of all its public functions
     tools/believe --table read accept accept.confluent OpSet run
                                                         the sums alone, as a table; NAME.CLAUSE is one clause
+    tools/believe --clauses chr_read                    the names of the clauses of each public function, one a line
+    tools/believe --where Step                          the files of definitions that define a word
 
 A contract reaches the words of its clauses, the ghost members (fields, the view, value and invariant of a model, the
 value of a trait's) of the repository's types that its signature or a definition names, and from each word its
@@ -31,7 +33,7 @@ from pathlib import Path
 from .reach import Reach
 from .repository import Repository
 from .rust import Function
-from .telling import each_line, table_lines, told
+from .telling import clauses_line, each_line, table_lines, told, where_lines
 
 TOP = str(Path(__file__).resolve().parents[2])
 
@@ -61,12 +63,25 @@ def lines_of(repository: Repository, name: str, clause: str | None, is_each: boo
     return told(called, reached(repository, functions, clause))
 
 
+def named_lines(repository: Repository, name: str) -> list[str]:
+    return [clauses_line(it) for it in repository.find(name)[0]]
+
+
+def defined_lines(repository: Repository, word: str) -> list[str]:
+    found = repository.defined(word)
+    if not found:
+        raise SystemExit(f"believe: no file of definitions defines {word}")
+    return where_lines(repository, found)
+
+
 def main() -> int:
     words = argparse.ArgumentParser(description=__doc__, formatter_class=argparse.RawDescriptionHelpFormatter)
     words.add_argument("name", nargs="*", help="crate, crate::function, crate::Type or crate::Type::function")
     words.add_argument("--clause", metavar="NAME", help="one clause alone: its name, or `requires` or `ensures`")
     words.add_argument("--table", action="store_true", help="the sums of all names, as a table")
     words.add_argument("--each", action="store_true", help="of a crate or type, the sums of each public function")
+    words.add_argument("--clauses", action="store_true", help="the names of clauses alone, by public function")
+    words.add_argument("--where", action="store_true", help="where each name is defined, as a word of definitions")
     words.add_argument("--top", default=TOP, help=argparse.SUPPRESS)
     said = words.parse_args()
     if not said.name:
@@ -76,7 +91,13 @@ def main() -> int:
     if said.table:
         print("\n".join(table(repository, said.name)))
     for name in [] if said.table else said.name:
-        print("\n".join(lines_of(repository, name, said.clause, said.each)))
+        if said.where:
+            lines = defined_lines(repository, name)
+        elif said.clauses:
+            lines = named_lines(repository, name)
+        else:
+            lines = lines_of(repository, name, said.clause, said.each)
+        print("\n".join(lines))
     for it in repository.warned:
         print(f"warning: {it}", file=sys.stderr)
     return 1 if repository.warned else 0

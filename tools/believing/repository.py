@@ -9,6 +9,7 @@ from .rust import TRAIT, Function, RustType, Source, read_source
 from .texts import files_below
 
 ROOT = "Rattle"
+SPECS = "specs"
 MOST_PASSED_ON = 9
 NO_PARTS = ("lib", "main", "mod")
 CONSTANTS = "TheConstants"
@@ -134,6 +135,12 @@ class Repository:
             return ModuleName(module.imports.aliases[name]) if name in module.imports.aliases else None
         return self.part_of(path)
 
+    def defined(self, word: str) -> list[Block]:
+        """The definitions of a word in all files of definitions, those of private contracts too, by file."""
+        modules = [self.module(path) for path in self.files if path.split(".")[2] == SPECS]
+        found = [it.own[word] for it in modules if it is not None and word in it.own]
+        return sorted(found, key=lambda it: (it.module.file, it.line))
+
     def part_of(self, path: str) -> Found | None:
         """The definition whose part a path names, as a data's constructors."""
         above, _, last = path.rpartition(".")
@@ -172,7 +179,13 @@ class Repository:
     def public(self, crate: str) -> list[Function]:
         """The public functions of a crate: those that a path of pub modules or a pub use leads to."""
         opening = Opening(self.sources, crate)
-        return [it for it in self.functions(crate) if self.is_public(it) and opening.leads_to(it)]
+        return [it for it in self.functions(crate) if self.is_public(it) and self.is_led_to(opening, it)]
+
+    def is_led_to(self, opening: "Opening", it: Function) -> bool:
+        """A method is found where its type is, in whichever file it stands."""
+        if it.owner is None:
+            return opening.leads_to(it.source, it.name)
+        return any(opening.leads_to(kind.source, kind.name) for kind in self.types[it.source.crate, it.owner])
 
     def is_public(self, it: Function) -> bool:
         types = self.types.get((it.source.crate, it.owner), []) if it.owner else []
@@ -241,6 +254,6 @@ class Opening:
             return words[0], tuple(words[1:])
         return self.crate, (*parts, *words)
 
-    def leads_to(self, it: Function) -> bool:
-        parts = tuple(it.source.parts)
-        return parts in self.modules or (self.crate, (*parts, it.owner or it.name)) in self.names
+    def leads_to(self, source: Source, name: str) -> bool:
+        parts = tuple(source.parts)
+        return parts in self.modules or (self.crate, (*parts, name)) in self.names

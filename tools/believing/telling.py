@@ -60,6 +60,19 @@ def each_line(it: Function, reach: Reach) -> str:
     return f"{count:5} definitions {lines:6} lines {all_count:5} {all_lines:6} with what the types keep  {it.short}"
 
 
+def clauses_line(it: Function) -> str:
+    """A function with the names of its clauses, `requires` before `ensures`."""
+    kinds: dict[str, list[str]] = {}
+    for clause in it.clauses:
+        kinds.setdefault(clause.kind, []).extend([clause.name] if clause.name else [])
+    said = [f"{kind} {', '.join(names)}".rstrip() for kind, names in sorted(kinds.items(), reverse=True)]
+    return f"{it.short}: {'; '.join(said)}" if said else it.short
+
+
+def where_lines(repository: Repository, blocks: Iterable[Block]) -> list[str]:
+    return [f"{repository.short(it.module.file)}:{it.line}: {it.name}, {number(it.count, 'line')}" for it in blocks]
+
+
 def table_lines(rows: Iterable[tuple[str, str, Reach]]) -> list[str]:
     """A table of sums, of names and clauses of them."""
     lines = ["| Contract | Definitions | Lines | With what the types keep | Lines |", "|---|---|---|---|---|"]

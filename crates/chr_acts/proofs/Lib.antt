@@ -1,2 +1,6 @@
 mod Legal
 pub mod Keeping
+mod Placing
+mod Showing
+mod Telling
+mod Values

@@ -4,3 +4,5 @@ pub mod Events
 pub mod Journals
 pub mod Books
 pub mod working
+pub mod JournalLaws
+pub mod Receipts

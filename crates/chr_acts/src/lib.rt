@@ -6,6 +6,7 @@ mod act;
 mod acting;
 mod book;
 mod entry;
+pub mod journals;
 mod lists;
 mod numbers;
 mod reply;

@@ -18,3 +18,10 @@ pub mod Numbered
 pub mod Joints
 pub mod Frees
 pub mod Listed
+pub mod SortPlaces
+pub mod SortMoves
+pub mod SortEquations
+pub mod SortClasses
+pub mod SortStanding
+pub mod SortLists
+pub mod SortedCases

@@ -12,3 +12,7 @@ pub mod Confluence
 pub mod Listed
 pub mod laws
 pub mod working
+pub mod Sorts
+pub mod SortMaps
+pub mod SortLists
+pub mod SortedCases

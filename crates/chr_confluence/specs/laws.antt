@@ -8,3 +8,8 @@ pub mod Joinability
 pub mod Parts
 pub mod Unification
 pub mod ListedCases
+-- What the laws of sorts say.
+pub mod Carrying
+pub mod SortedMaps
+pub mod SortedLists
+pub mod SortedCases

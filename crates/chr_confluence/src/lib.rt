@@ -4,3 +4,4 @@
 
 pub mod laws;
 pub mod listing;
+pub mod sorted_laws;

@@ -1,13 +1,14 @@
 //! Changed rules as they are told.
 
 use crate::draft::{Draft, Pair};
+use crate::fact_text::push_value;
 use crate::rule_text::{ToldRule, variable_in};
 use chr_base::program::Program;
 use chr_base::rule::Rule;
 use chr_base::term::{Cmp, Comparison, Pattern, Term};
+use chr_faults::{push_number, push_text};
 use chr_read::push_pattern;
 use std::alloc::{AllocError, Global};
-use std::fmt::Write;
 
 /// The sign of a comparison.
 pub fn sign(cmp: Cmp) -> &'static str {
@@ -24,10 +25,9 @@ pub fn sign(cmp: Cmp) -> &'static str {
 /// Adds a term as a canonical text has it.
 fn push_term(out: &mut String, term: Term) -> Result<(), AllocError> {
     match term {
-        Term::Variable(variable) => write!(out, "V{variable}")?,
-        Term::Constant(value) => write!(out, "{value}")?,
+        Term::Variable(variable) => push_number(out, "V", u64::from(variable), ""),
+        Term::Constant(value) => push_value(out, value),
     }
-    Ok(())
 }
 
 /// Adds the guard, with the bar behind it, where there is one.
@@ -35,7 +35,7 @@ fn push_guard(out: &mut String, guard: &[Comparison]) -> Result<(), AllocError> 
     for (i, comparison) in guard.iter().enumerate() {
         out.push_str(if i == 0 { "" } else { ", " })?;
         push_term(out, comparison.left)?;
-        write!(out, " {} ", sign(comparison.cmp))?;
+        push_text(out, " ", sign(comparison.cmp), " ")?;
         push_term(out, comparison.right)?;
     }
     out.push_str(if guard.is_empty() { "" } else { " | " })
@@ -110,7 +110,7 @@ fn told_as(equal: &[Pair], variable: usize) -> usize {
 /// Adds a word of a canonical text, where variables are made one.
 fn push_word(out: &mut String, equal: &[Pair], word: &str) -> Result<(), AllocError> {
     match variable_in(word) {
-        Some(variable) => Ok(write!(out, "V{}", told_as(equal, variable))?),
+        Some(variable) => push_number(out, "V", told_as(equal, variable) as u64, ""),
         None => out.push_str(word),
     }
 }
@@ -252,7 +252,7 @@ pub(crate) fn drafts_text(
 ) -> Result<String, AllocError> {
     let mut out = String::new(alloc);
     if let Some(name) = &told.rule.name {
-        write!(out, "{} @ ", name.as_str())?;
+        push_text(&mut out, "", name.as_str(), " @ ")?;
     }
     for (i, draft) in drafts.iter().enumerate() {
         out.push_str(if i == 0 { "" } else { "\n" })?;

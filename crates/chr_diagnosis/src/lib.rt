@@ -5,6 +5,7 @@ mod beside;
 mod diagnosis;
 mod draft;
 mod draft_text;
+mod fact_text;
 mod keeping;
 mod limits;
 mod peak;

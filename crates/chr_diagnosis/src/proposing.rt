@@ -88,9 +88,10 @@ fn numbers_of(alloc: Global, peak: &Peak) -> Result<Vec<usize>, AllocError> {
 
 /// What may stand in place of one of the rules that lead to two ends.
 fn tries_of(alloc: Global, text: &[u8], peak: &Peak) -> Result<Vec<Try>, AllocError> {
-    let names = Names::of(alloc, text)?;
+    let program = peak.weighed.program();
+    let names = Names::of(alloc, text, program)?;
     let source = NamedProgram {
-        program: peak.weighed.program(),
+        program,
         names: &names,
     };
     let numbers = numbers_of(alloc, peak)?;

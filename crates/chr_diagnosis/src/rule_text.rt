@@ -1,18 +1,15 @@
 //! Rules of a program as they are told.
 
+use crate::fact_text::push_value;
 use chr_base::atom::Atom;
-use chr_base::bag::Bag;
 use chr_base::program::Program;
 use chr_base::rule::Rule;
 use chr_base::term::{Pattern, Term};
-use chr_base::text::push_store;
-use chr_faults::{ANONYMOUS, Names, RuleNames};
+use chr_faults::{ANONYMOUS, Names, RuleNames, push_number, push_text};
 use chr_read::{push_pattern, push_rule};
 use std::alloc::{AllocError, Global};
-use std::fmt;
-use std::fmt::Write;
 
-/// A program, with the names that its text gives the variables of its rules.
+/// A program, with the names that its text gives variables and columns.
 #[derive(Clone, Copy)]
 pub struct NamedProgram<'a> {
     pub program: &'a Program,
@@ -22,9 +19,14 @@ pub struct NamedProgram<'a> {
 /// A rule of a program, with the names of its variables.
 #[derive(Clone, Copy)]
 pub struct ToldRule<'a> {
+    /// The program that it is a rule of.
     pub program: &'a Program,
     pub rule: &'a Rule,
+    /// Its number there, counted from 1.
     pub number: usize,
+    /// The program with all names in its text.
+    source: NamedProgram<'a>,
+    /// The names of the rule's own variables.
     names: Option<&'a RuleNames>,
     /// The names of the rule that is told before it: the same names get a prime here.
     primed: Option<&'a RuleNames>,
@@ -37,19 +39,10 @@ pub fn told_rule<'a>(source: NamedProgram<'a>, number: usize) -> Option<ToldRule
         program: source.program,
         rule,
         number,
+        source,
         names: source.names.of_rule(number),
         primed: None,
     })
-}
-
-impl fmt::Display for ToldRule<'_> {
-    fn fmt<W: fmt::Write>(&self, f: &mut fmt::Formatter<W>) -> fmt::Result {
-        write!(f, "rule {}", self.number)?;
-        match &self.rule.name {
-            Some(name) => write!(f, " ({})", name.as_str()),
-            None => Ok(()),
-        }
-    }
 }
 
 /// The number of the variable that this word of a canonical text is. Names of symbols begin with small letters.
@@ -98,7 +91,7 @@ impl ToldRule<'_> {
     /// Adds the name of the variable of this number.
     fn push_variable(&self, out: &mut String, variable: usize) -> Result<(), AllocError> {
         let Some(name) = self.name_of(variable) else {
-            return Ok(write!(out, "V{variable}")?);
+            return push_number(out, "V", variable as u64, "");
         };
         out.push_str(name)?;
         out.push_str(self.prime_of(name))
@@ -159,7 +152,7 @@ impl ToldRule<'_> {
         out: &mut String,
         place: usize,
     ) -> Result<(), AllocError> {
-        write!(out, "head {place}")?;
+        push_number(out, "head ", place as u64, "")?;
         let place = place.saturating_sub(1);
         if place < self.rule.places() {
             out.push_str(", `")?;
@@ -177,7 +170,8 @@ impl ToldRule<'_> {
         }
         out.push_str(", ")?;
         self.push_variable(out, variable)?;
-        Ok(write!(out, " = {value}")?)
+        out.push_str(" = ")?;
+        push_value(out, value)
     }
 
     /// Adds the values of the variables of one head. They are numbered by first occurrence, so that the next number is
@@ -209,38 +203,32 @@ impl ToldRule<'_> {
         Ok(())
     }
 
+    /// Adds the number and the name of the rule.
+    fn push_label(&self, out: &mut String) -> Result<(), AllocError> {
+        push_number(out, "rule ", self.number as u64, "")?;
+        match &self.rule.name {
+            Some(name) => push_text(out, " (", name.as_str(), ")"),
+            None => Ok(()),
+        }
+    }
+
+    /// Adds the heads that a step keeps.
+    fn push_kept(&self, out: &mut String, kept: &[Atom]) -> Result<(), AllocError> {
+        if kept.is_empty() {
+            return Ok(());
+        }
+        out.push_str(" keeps ")?;
+        self.source.push_facts(out, kept)?;
+        out.push_str(" and")
+    }
+
     /// Adds what a step of the rule does with these heads.
-    pub fn push_step(
-        &self,
-        alloc: Global,
-        out: &mut String,
-        heads: &[Atom],
-    ) -> Result<(), AllocError> {
+    pub fn push_step(&self, out: &mut String, heads: &[Atom]) -> Result<(), AllocError> {
         let kept = self.rule.kept.len().min(heads.len());
         let (kept, removed) = heads.split_at(kept);
-        write!(out, "{self}")?;
-        if !kept.is_empty() {
-            out.push_str(" keeps ")?;
-            push_atoms(alloc, out, self.program, kept)?;
-            out.push_str(" and")?;
-        }
+        self.push_label(out)?;
+        self.push_kept(out, kept)?;
         out.push_str(" takes ")?;
-        push_atoms(alloc, out, self.program, removed)
+        self.source.push_facts(out, removed)
     }
-}
-
-/// Adds atoms in the order in which they stand, joined by commas.
-fn push_atoms(
-    alloc: Global,
-    out: &mut String,
-    program: &Program,
-    atoms: &[Atom],
-) -> Result<(), AllocError> {
-    for (i, atom) in atoms.iter().enumerate() {
-        let mut alone = Bag::new(alloc);
-        alone.add(atom.copy())?;
-        out.push_str(if i == 0 { "" } else { ", " })?;
-        push_store(alloc, out, program, &alone)?;
-    }
-    Ok(())
 }

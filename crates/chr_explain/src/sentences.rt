@@ -14,7 +14,7 @@ mod told;
 mod weighing_text;
 mod weight_text;
 
-pub(crate) use crowd_text::{columns_text, has_head};
+pub(crate) use crowd_text::{columns_text, has_head, push_column};
 pub(crate) use pairs::{ToldPair, pairs_of, push_numbers};
 pub(crate) use symbol_text::push_symbol;
 pub(crate) use telling::told_text;

@@ -1,3 +1,4 @@
+pub mod ColumnNames
 pub mod Places
 pub mod Lines
 pub mod BadClauses

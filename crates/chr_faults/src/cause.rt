@@ -1,13 +1,14 @@
 //! What is wrong with a clause, with the names and numbers at hand.
 
 use crate::foreign::Foreign;
+use crate::part::{push_number, push_word};
 use crate::syntax::Stuck;
-use crate::word::{ToldSymbol, ToldWord};
+use crate::word::ToldSymbol;
 use chr_base::limits::{
     MAX_ARITY, MAX_BODY, MAX_COMPARISONS, MAX_HEADS, MAX_NAME, MAX_RULES, MAX_SYMBOLS, MAX_WEIGHT,
 };
 use chr_read::Fault;
-use std::fmt;
+use std::alloc::AllocError;
 
 /// What has grown too large.
 #[derive(Clone, Copy)]
@@ -59,89 +60,137 @@ pub(crate) enum Cause<'a> {
     Fault(Fault),
 }
 
-impl fmt::Display for Stuck<'_> {
-    fn fmt<W: fmt::Write>(&self, f: &mut fmt::Formatter<W>) -> fmt::Result {
-        write!(f, "this clause has no form: {} was expected", self.wanted)?;
+impl Stuck<'_> {
+    /// Adds behind what it is stuck.
+    fn push_after(&self, out: &mut String) -> Result<(), AllocError> {
         match self.after {
-            Some(word) => write!(f, " after {}", ToldWord(word))?,
-            None => f.write_str(" at its beginning")?,
+            Some(word) => { push_word(out, " after `", word, "`") }
+            None => out.push_str(" at its beginning"),
         }
+    }
+
+    /// Adds at what it is stuck.
+    fn push_found(&self, out: &mut String) -> Result<(), AllocError> {
         match self.found {
-            Some(token) => write!(f, ", not {}", ToldWord(token.word)),
-            None => f.write_str(", but it ends"),
+            Some(token) => { push_word(out, ", not `", token.word, "`") }
+            None => out.push_str(", but it ends"),
+        }
+    }
+
+    fn push(&self, out: &mut String) -> Result<(), AllocError> {
+        out.push_str("this clause has no form: ")?;
+        out.push_str(self.wanted.text())?;
+        out.push_str(" was expected")?;
+        self.push_after(out)?;
+        self.push_found(out)
+    }
+}
+
+/// Adds how many there are, and how many are allowed.
+fn push_many(
+    out: &mut String,
+    before: &str,
+    number: usize,
+    behind: &str,
+    most: usize,
+) -> Result<(), AllocError> {
+    push_number(out, before, number as u64, behind)?;
+    push_number(out, ", ", most as u64, " are allowed")
+}
+
+impl Over<'_> {
+    fn push(&self, out: &mut String) -> Result<(), AllocError> {
+        match *self {
+            Over::Word(word) => {
+                push_word(out, "`", word, "` has ")?;
+                push_many(out, "", word.len(), " bytes", MAX_NAME)
+            }
+            Over::Arity(symbol) => {
+                symbol.push(out)?;
+                let before = " has too many arguments, ";
+                push_number(out, before, MAX_ARITY as u64, " are allowed")
+            }
+            Over::Heads(number) => push_many(out, "the rule has ", number, " heads", MAX_HEADS),
+            Over::Comparisons(number) => {
+                push_many(
+                    out,
+                    "the guard has ",
+                    number,
+                    " comparisons",
+                    MAX_COMPARISONS,
+                )
+            }
+            Over::Body(number) => push_many(out, "the body has ", number, " atoms", MAX_BODY),
+            Over::Symbols => {
+                let behind = " of the program";
+                push_many(out, "this is symbol ", MAX_SYMBOLS + 1, behind, MAX_SYMBOLS)
+            }
+            Over::Rules => {
+                push_many(
+                    out,
+                    "this is rule ",
+                    MAX_RULES + 1,
+                    " of the program",
+                    MAX_RULES,
+                )
+            }
         }
     }
 }
 
-impl fmt::Display for Over<'_> {
-    fn fmt<W: fmt::Write>(&self, f: &mut fmt::Formatter<W>) -> fmt::Result {
-        match self {
-            Over::Word(word) => write!(
-                f,
-                "{} has {} bytes, {MAX_NAME} are allowed",
-                ToldWord(word),
-                word.len()
-            ),
-            Over::Arity(symbol) => write!(
-                f,
-                "{symbol} has too many arguments, {MAX_ARITY} are allowed"
-            ),
-            Over::Heads(number) => write!(
-                f,
-                "the rule has {number} heads, {MAX_HEADS} are allowed"
-            ),
-            Over::Comparisons(number) => write!(
-                f,
-                "the guard has {number} comparisons, {MAX_COMPARISONS} are allowed"
-            ),
-            Over::Body(number) => write!(f, "the body has {number} atoms, {MAX_BODY} are allowed"),
-            Over::Symbols => write!(
-                f,
-                "this is symbol {} of the program, {MAX_SYMBOLS} are allowed",
-                MAX_SYMBOLS + 1
-            ),
-            Over::Rules => write!(
-                f,
-                "this is rule {} of the program, {MAX_RULES} are allowed",
-                MAX_RULES + 1
-            ),
+impl WeightFault<'_> {
+    fn push(&self, out: &mut String) -> Result<(), AllocError> {
+        match *self {
+            WeightFault::Number(word) => {
+                push_word(out, "the weight `", word, "` is outside 0 to ")?;
+                push_number(out, "", MAX_WEIGHT, "")
+            }
+            WeightFault::Zero => out.push_str("a weight of zeros alone is none"),
+            WeightFault::Second(symbol) => {
+                symbol.push(out)?;
+                out.push_str(" has a weight already")
+            }
         }
     }
 }
 
-impl fmt::Display for WeightFault<'_> {
-    fn fmt<W: fmt::Write>(&self, f: &mut fmt::Formatter<W>) -> fmt::Result {
-        match self {
-            WeightFault::Number(word) => write!(
-                f,
-                "the weight {} is outside 0 to {MAX_WEIGHT}",
-                ToldWord(word)
-            ),
-            WeightFault::Zero => f.write_str("a weight of zeros alone is none"),
-            WeightFault::Second(symbol) => write!(f, "{symbol} has a weight already"),
-        }
-    }
+/// Adds a symbol, and what it is.
+fn push_symbol(out: &mut String, symbol: ToldSymbol<'_>, behind: &str) -> Result<(), AllocError> {
+    symbol.push(out)?;
+    out.push_str(behind)
 }
 
-impl fmt::Display for Cause<'_> {
-    fn fmt<W: fmt::Write>(&self, f: &mut fmt::Formatter<W>) -> fmt::Result {
-        match self {
-            Cause::Byte(byte) => write!(f, "the byte {byte} may not stand outside comments"),
-            Cause::NoToken(word, _) => write!(f, "no token begins with {}", ToldWord(word)),
-            Cause::Empty => f.write_str("this clause is empty"),
-            Cause::Form(stuck, _) => write!(f, "{stuck}"),
-            Cause::Propagation => f.write_str("this is a propagation rule, and these are not read"),
-            Cause::Undeclared(symbol) => write!(f, "{symbol} is not declared"),
-            Cause::DeclaredTwice(symbol) => write!(f, "{symbol} is declared already"),
-            Cause::Over(over) => write!(f, "{over}"),
-            Cause::Unbound(word) => write!(f, "{} stands in no head", ToldWord(word)),
-            Cause::Anonymous => f.write_str(
-                "`_` is a variable of its own, which stands in no head",
-            ),
-            Cause::Number(word) => write!(f, "{} is no number of 64 bits", ToldWord(word)),
-            Cause::Weight(fault) => write!(f, "{fault}"),
-            Cause::Unended => f.write_str("this clause has no full stop"),
-            Cause::Fault(fault) => write!(f, "this clause has fault {}", fault.number()),
+impl Cause<'_> {
+    /// Adds what is wrong.
+    pub(crate) fn push(&self, out: &mut String) -> Result<(), AllocError> {
+        match *self {
+            Cause::Byte(byte) => {
+                push_number(
+                    out,
+                    "the byte ",
+                    u64::from(byte),
+                    " may not stand outside comments",
+                )
+            }
+            Cause::NoToken(word, _) => push_word(out, "no token begins with `", word, "`"),
+            Cause::Empty => out.push_str("this clause is empty"),
+            Cause::Form(stuck, _) => stuck.push(out),
+            Cause::Propagation => {
+                out.push_str("this is a propagation rule, and these are not read")
+            }
+            Cause::Undeclared(symbol) => push_symbol(out, symbol, " is not declared"),
+            Cause::DeclaredTwice(symbol) => push_symbol(out, symbol, " is declared already"),
+            Cause::Over(over) => over.push(out),
+            Cause::Unbound(word) => push_word(out, "`", word, "` stands in no head"),
+            Cause::Anonymous => {
+                out.push_str("`_` is a variable of its own, which stands in no head")
+            }
+            Cause::Number(word) => push_word(out, "`", word, "` is no number of 64 bits"),
+            Cause::Weight(fault) => fault.push(out),
+            Cause::Unended => out.push_str("this clause has no full stop"),
+            Cause::Fault(fault) => {
+                push_number(out, "this clause has fault ", u64::from(fault.number()), "")
+            }
         }
     }
 }

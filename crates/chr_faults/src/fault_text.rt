@@ -8,11 +8,13 @@ ghost use Rattle.chr_faults.specs.Places.{place_outside};
 
 use crate::cause::Cause;
 use crate::clause::{clause_of, clauses_before};
+use crate::columns::{ColumnNames, columns_in, columns_of};
 use crate::declaring::bad_declaration;
 use crate::faults::{BadClause, TextFaults, text_faults};
-use crate::finding::finding_in;
+use crate::finding::{Finding, finding_in};
 use crate::limits::{MAX_TOLD_FAULTS, MAX_TOLD_SYMBOLS};
 use crate::line::push_line;
+use crate::part::{push_number, push_text};
 use crate::place::{Place, place_of, place_outside};
 use crate::span::Span;
 use crate::word::{ToldArity, ToldSymbol};
@@ -21,7 +23,6 @@ use chr_base::program::Program;
 use chr_read::{MAX_TEXT, ReadFault, read};
 use chr_syntax::{placed_tokens, without_comments};
 use std::alloc::{AllocError, Global};
-use std::fmt::Write;
 
 /// The program of the clauses before a bad one.
 fn program_before(
@@ -38,20 +39,36 @@ fn program_before(
     }
 }
 
-/// Adds the declared symbols, the first `MAX_TOLD_SYMBOLS` of them.
-fn push_symbols(out: &mut String, program: &Program) -> Result<(), AllocError> {
-    out.push_str(if program.symbols() == 0 {
-        "; nothing is declared before it"
-    } else {
-        "; declared are"
-    })?;
+/// Adds a symbol of the program, with the names of its columns where it has some.
+fn push_symbol(
+    out: &mut String,
+    program: &Program,
+    columns: &[ColumnNames],
+    symbol: SymbolId,
+) -> Result<(), AllocError> {
+    if program.symbols() <= usize::from(symbol.0) {
+        return Ok(());
+    }
+    let told = ToldSymbol {
+        name: program.name_of(symbol).as_bytes(),
+        arity: ToldArity::Number(program.arity_of(symbol)),
+    };
+    told.push(out)?;
+    match columns_of(columns, symbol) {
+        Some(columns) => columns.push(out),
+        None => Ok(()),
+    }
+}
+
+/// Adds the declared symbols, the first `MAX_TOLD_SYMBOLS` of them, with the names of their columns.
+pub(crate) fn push_symbols(
+    out: &mut String,
+    program: &Program,
+    columns: &[ColumnNames],
+) -> Result<(), AllocError> {
     for i in 0..program.symbols().min(MAX_TOLD_SYMBOLS) {
-        let symbol = SymbolId(i as u16);
-        let told = ToldSymbol {
-            name: program.name_of(symbol).as_bytes(),
-            arity: ToldArity::Number(program.arity_of(symbol)),
-        };
-        write!(out, "{} {told}", if i == 0 { "" } else { "," })?;
+        out.push_str(if i == 0 { "; declared are " } else { ", " })?;
+        push_symbol(out, program, columns, SymbolId(i as u16))?;
     }
     out.push_str(if MAX_TOLD_SYMBOLS < program.symbols() {
         ", .."
@@ -81,7 +98,6 @@ struct Source<'a> {
 }
 
 /// What is told of one bad clause.
-#[derive(Drop)]
 pub struct Note {
     /// The clause, with its fault.
     pub told: BadClause,
@@ -93,22 +109,53 @@ pub struct Note {
     pub remedy: String,
 }
 
+/// What is derived would be proved again in each crate that lets a note go.
+impl Drop for Note {
+    fn drop(self) {
+        let Note {
+            told: _told,
+            at: _at,
+            message: _message,
+            remedy: _remedy,
+        } = self;
+    }
+}
+
+/// Adds what is declared before a clause that has an undeclared symbol.
+fn push_declared(
+    alloc: Global,
+    out: &mut String,
+    text: &[u8],
+    program: &Program,
+) -> Result<(), AllocError> {
+    if program.symbols() == 0 {
+        return out.push_str("; nothing is declared before it");
+    }
+    let columns = columns_in(alloc, text, program)?;
+    push_symbols(out, program, &columns)
+}
+
 /// What is wrong, in words.
-fn message_of(alloc: Global, cause: &Cause<'_>, program: &Program) -> Result<String, AllocError> {
-    let mut message = format!(in alloc; "{cause}")?;
+fn message_of(
+    alloc: Global,
+    text: &[u8],
+    cause: &Cause<'_>,
+    program: &Program,
+) -> Result<String, AllocError> {
+    let mut message = String::new(alloc);
+    cause.push(&mut message)?;
     if let Cause::Undeclared(_) = cause {
-        push_symbols(&mut message, program)?;
+        push_declared(alloc, &mut message, text, program)?;
     }
     Ok(message)
 }
 
-/// What would be right of a fault that does not follow of an earlier one.
-fn remedy_of(alloc: Global, cause: &Cause<'_>) -> Result<String, AllocError> {
-    let remedy = match cause.foreign() {
-        Some(foreign) => format!(in alloc; "{foreign}")?,
-        None => format!(in alloc; "{}", cause.remedy())?,
-    };
-    Ok(remedy)
+/// Adds what would be right of a fault that does not follow of an earlier one.
+fn push_remedy(out: &mut String, cause: &Cause<'_>) -> Result<(), AllocError> {
+    match cause.foreign() {
+        Some(foreign) => foreign.push(out),
+        None => out.push_str(cause.remedy()),
+    }
 }
 
 /// The number of an earlier bad clause of which this one's fault follows.
@@ -126,19 +173,38 @@ fn follows_of(
     }
 }
 
-/// What is told of a bad clause.
-fn note_of(alloc: Global, source: Source<'_>, told: BadClause) -> Result<Note, AllocError> {
-    let clause = clause_of(source.plain, told.number);
-    let program = program_before(alloc, source.plain, source.bad, told.number)?;
-    let finding = finding_in(alloc, clause.bytes, told.fault, &program)?;
-    let at = place_in(source.text, clause.before.saturating_add(finding.at));
-    let message = message_of(alloc, &finding.cause, &program)?;
-    let remedy = match follows_of(alloc, source, told, &finding.cause)? {
-        Some(number) => format!(in alloc;
-            "clause {number}, which is bad, would declare it: mend that one first"
+/// What would be right.
+fn remedy_of(
+    alloc: Global,
+    source: Source<'_>,
+    told: BadClause,
+    cause: &Cause<'_>,
+) -> Result<String, AllocError> {
+    let mut remedy = String::new(alloc);
+    match follows_of(alloc, source, told, cause)? {
+        Some(number) => push_number(
+            &mut remedy,
+            "clause ",
+            number as u64,
+            ", which is bad, would declare it: mend that one first",
         )?,
-        None => remedy_of(alloc, &finding.cause)?,
-    };
+        None => push_remedy(&mut remedy, cause)?,
+    }
+    Ok(remedy)
+}
+
+/// What is told of a bad clause, of which this was found behind so many bytes outside comments.
+fn found_note(
+    alloc: Global,
+    source: Source<'_>,
+    told: BadClause,
+    program: &Program,
+    before: usize,
+    finding: Finding<'_>,
+) -> Result<Note, AllocError> {
+    let at = place_in(source.text, before.saturating_add(finding.at));
+    let message = message_of(alloc, source.text, &finding.cause, program)?;
+    let remedy = remedy_of(alloc, source, told, &finding.cause)?;
     Ok(Note {
         told,
         at,
@@ -147,24 +213,39 @@ fn note_of(alloc: Global, source: Source<'_>, told: BadClause) -> Result<Note, A
     })
 }
 
+/// What is told of a bad clause.
+fn note_of(alloc: Global, source: Source<'_>, told: BadClause) -> Result<Note, AllocError> {
+    let clause = clause_of(source.plain, told.number);
+    let program = program_before(alloc, source.plain, source.bad, told.number)?;
+    let finding = finding_in(alloc, clause.bytes, told.fault, &program)?;
+    found_note(alloc, source, told, &program, clause.before, finding)
+}
+
+/// Adds a place of a text.
+pub(crate) fn push_place(out: &mut String, place: Place) -> Result<(), AllocError> {
+    push_number(out, "line ", place.line as u64, ", column ")?;
+    push_number(out, "", place.column as u64, "")
+}
+
 impl Note {
     /// Where the fault stands in the text.
     pub fn place(&self, text: &[u8]) -> Place {
         place_of(text, self.at.min(text.len()))
     }
 
+    /// Adds the clause, and the number of its fault.
+    fn push_fault(&self, out: &mut String) -> Result<(), AllocError> {
+        push_number(out, ", clause ", self.told.number as u64, ", fault ")?;
+        push_number(out, "", u64::from(self.told.fault.number()), ": ")
+    }
+
     /// Adds what is told, with the line of the fault.
     fn push(&self, out: &mut String, text: &[u8]) -> Result<(), AllocError> {
-        let place = self.place(text);
-        let fault = self.told.fault.number();
-        write!(out, "line {}, column {}, ", place.line, place.column)?;
-        write!(out, "clause {}, fault {fault}: ", self.told.number)?;
-        out.push_str(self.message.as_str())?;
-        out.push_str("\n")?;
+        push_place(out, self.place(text))?;
+        self.push_fault(out)?;
+        push_text(out, "", self.message.as_str(), "\n")?;
         push_line(out, text, self.at.min(text.len()))?;
-        out.push_str("    ")?;
-        out.push_str(self.remedy.as_str())?;
-        out.push_str("\n")
+        push_text(out, "    ", self.remedy.as_str(), "\n")
     }
 }
 
@@ -231,22 +312,27 @@ pub fn notes_of(alloc: Global, text: &[u8], faults: &TextFaults) -> Result<Vec<N
     }
 }
 
-/// The explanation of a text with these bad clauses.
-fn clauses_told(alloc: Global, text: &[u8], notes: &[Note]) -> Result<String, AllocError> {
-    let mut out = String::new(alloc);
+/// Adds the explanation of a text with these bad clauses.
+fn push_notes(out: &mut String, text: &[u8], notes: &[Note]) -> Result<(), AllocError> {
     for note in notes {
-        note.push(&mut out, text)?;
+        note.push(out, text)?;
     }
-    if 1 < notes.len() {
-        out.push_str("A clause after a bad one is read as if the bad one were not there.\n")?;
+    out.push_str(if 1 < notes.len() {
+        "A clause after a bad one is read as if the bad one were not there.\n"
+    } else {
+        ""
+    })?;
+    if notes.len() < MAX_TOLD_FAULTS {
+        return Ok(());
     }
-    if notes.len() == MAX_TOLD_FAULTS {
-        write!(
-            out,
-            "No more than {MAX_TOLD_FAULTS} bad clauses are told.\n"
-        )?;
-    }
-    Ok(out)
+    let most = MAX_TOLD_FAULTS as u64;
+    push_number(out, "No more than ", most, " bad clauses are told.\n")
+}
+
+/// Adds that a text is too long.
+fn push_too_long(out: &mut String) -> Result<(), AllocError> {
+    let before = "fault 2: the text has more than ";
+    push_number(out, before, MAX_TEXT as u64, " bytes\n")
 }
 
 /// The explanation of what is wrong with a text, of which these are the notes.
@@ -256,13 +342,12 @@ pub fn faults_told(
     faults: &TextFaults,
     notes: &[Note],
 ) -> Result<String, AllocError> {
+    let mut out = String::new(alloc);
     match faults {
-        TextFaults::TooLong => {
-            let told = format!(in alloc; "fault 2: the text has more than {MAX_TEXT} bytes\n")?;
-            Ok(told)
-        }
-        TextFaults::Clauses(_) => clauses_told(alloc, text, notes),
+        TextFaults::TooLong => push_too_long(&mut out)?,
+        TextFaults::Clauses(_) => push_notes(&mut out, text, notes)?,
     }
+    Ok(out)
 }
 
 /// Whether these are the faults of a program, which has none.

@@ -1,10 +1,10 @@
 //! Forms of usual CHR that this language has not, told by name.
 
+use crate::part::push_word;
 use crate::syntax::{Naming, Side, Stuck, Wanted};
 use crate::token::{is_comparison, is_name, is_sign, is_term};
-use crate::word::{ToldBytes, ToldWord};
 use chr_syntax::{PlacedToken, Sign, Token};
-use std::fmt;
+use std::alloc::AllocError;
 
 /// What usual CHR has in place of a number or a variable.
 #[derive(Clone, Copy)]
@@ -299,71 +299,97 @@ pub(crate) fn foreign_token<'a>(
 const NUMBERED: &str =
     "arguments are numbers and variables: give it a number; a node takes names in the facts that it is told";
 
-impl fmt::Display for ForeignValue<'_> {
-    fn fmt<W: fmt::Write>(&self, f: &mut fmt::Formatter<W>) -> fmt::Result {
-        match self {
-            ForeignValue::Symbol(word) => {
-                write!(f, "{} is a symbol, and {NUMBERED}", ToldWord(word))
-            }
-            ForeignValue::Quoted => write!(f, "this is quoted text, and {NUMBERED}"),
-            ForeignValue::Term(name) => write!(
-                f,
-                "`{}(..)` is a term, and arguments are numbers and variables: give its parts as arguments",
-                ToldBytes(name)
+/// A sentence about a word of the text, which is empty where it is about none.
+#[derive(Clone, Copy)]
+struct Phrase<'a> {
+    word: &'a [u8],
+    /// What stands behind the word.
+    behind: &'static str,
+    /// What stands behind that.
+    more: &'static str,
+}
+
+/// A sentence about no word.
+fn plain<'a>(sentence: &'static str) -> Phrase<'a> {
+    of_word(&[], sentence, "")
+}
+
+/// A sentence that begins with a word.
+fn of_word<'a>(word: &'a [u8], behind: &'static str, more: &'static str) -> Phrase<'a> {
+    Phrase { word, behind, more }
+}
+
+impl<'a> ForeignValue<'a> {
+    fn sentence(&self) -> Phrase<'a> {
+        match *self {
+            ForeignValue::Symbol(word) => of_word(word, "` is a symbol, and ", NUMBERED),
+            ForeignValue::Quoted => of_word(&[], "this is quoted text, and ", NUMBERED),
+            ForeignValue::Term(name) => of_word(
+                name,
+                "(..)` is a term, and arguments are numbers and variables: give its parts as arguments",
+                "",
             ),
-            ForeignValue::List => f.write_str(
+            ForeignValue::List => plain(
                 "this is a list, and arguments are numbers and variables: tell a fact for each member",
             ),
         }
     }
 }
 
-impl fmt::Display for ForeignDirective {
-    fn fmt<W: fmt::Write>(&self, f: &mut fmt::Formatter<W>) -> fmt::Result {
-        f.write_str(match self {
+impl ForeignDirective {
+    fn text(self) -> &'static str {
+        match self {
             ForeignDirective::Modes =>
                 "modes and types are not read: write the number of arguments, as in `:- chr_constraint a/1, b/0.`",
             ForeignDirective::Types => "types are not read: leave this directive out",
             ForeignDirective::Options => "options are not read: leave this directive out",
             ForeignDirective::Modules =>
                 "no module is read but `:- use_module(library(chr)).`: leave this directive out",
-        })
+        }
     }
 }
 
-impl fmt::Display for Foreign<'_> {
-    fn fmt<W: fmt::Write>(&self, f: &mut fmt::Formatter<W>) -> fmt::Result {
-        match self {
-            Foreign::Directive(directive) => write!(f, "{directive}"),
-            Foreign::Value(value) => write!(f, "{value}"),
-            Foreign::Arithmetic(word) => write!(
-                f,
-                "{} is arithmetic, and rules do none: tell what it gives, as each node its own total, or carry sums ('Sums' in docs/GUIDE.md)",
-                ToldWord(word)
+impl<'a> Foreign<'a> {
+    fn sentence(&self) -> Phrase<'a> {
+        match *self {
+            Foreign::Directive(directive) => plain(directive.text()),
+            Foreign::Value(value) => value.sentence(),
+            Foreign::Arithmetic(word) => of_word(
+                word,
+                "` is arithmetic, and rules do none: tell what it gives, as each node its own total, or carry sums ('Sums' in docs/GUIDE.md)",
+                "",
             ),
-            Foreign::Call(name) => write!(
-                f,
-                "`{}(..)` is not read: guards compare numbers and variables, which always have values",
-                ToldBytes(name)
+            Foreign::Call(name) => of_word(
+                name,
+                "(..)` is not read: guards compare numbers and variables, which always have values",
+                "",
             ),
-            Foreign::Sign { usual, here } => write!(f, "`{usual}` is written `{here}`"),
-            Foreign::Negation => f.write_str(
+            Foreign::Sign { usual, here } => { of_word(usual.as_bytes(), "` is written `", here) }
+            Foreign::Negation => plain(
                 "`\\+` is not read: write the opposite comparison; that a fact is missing can't be asked",
             ),
-            Foreign::Alternatives => f.write_str(
+            Foreign::Alternatives => plain(
                 "`;` and `->` are not read: write a rule for each case, with its guard",
             ),
-            Foreign::Comparison => f.write_str(
-                "a body is atoms alone: write comparisons before `|`",
-            ),
-            Foreign::Equation => f.write_str(
+            Foreign::Comparison => plain("a body is atoms alone: write comparisons before `|`"),
+            Foreign::Equation => plain(
                 "facts hold numbers, and nothing makes two of them equal: write a value where its variable would stand, or follow 'New names for old' in docs/GUIDE.md",
             ),
-            Foreign::Cut => f.write_str("`!` is not read: leave it out"),
-            Foreign::Comment => f.write_str(
-                "`/* .. */` is no comment: begin each line of it with `%`",
-            ),
-            Foreign::Pragma => f.write_str("identifiers and pragmas are not read: leave them out"),
+            Foreign::Cut => plain("`!` is not read: leave it out"),
+            Foreign::Comment => plain("`/* .. */` is no comment: begin each line of it with `%`"),
+            Foreign::Pragma => plain("identifiers and pragmas are not read: leave them out"),
         }
+    }
+
+    /// Adds what it is, and what to write.
+    pub(crate) fn push(&self, out: &mut String) -> Result<(), AllocError> {
+        let phrase = self.sentence();
+        let before = if phrase.word.is_empty() { "" } else { "`" };
+        push_word(out, before, phrase.word, phrase.behind)?;
+        out.push_str(phrase.more)?;
+        out.push_str(match self {
+            Foreign::Sign { .. } => "`",
+            _ => "",
+        })
     }
 }

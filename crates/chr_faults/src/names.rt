@@ -1,7 +1,13 @@
-//! The names that a program's text gives the variables of its rules.
+//! The names that a program's text gives the variables of its rules and the columns of its symbols.
+ghost use Rattle.std.specs.Prelude.{IfOk};
+ghost use Rattle.std.specs.List.{All};
+ghost use Rattle.chr_base.specs.Programs.{declarations};
+ghost use Rattle.chr_faults.specs.ColumnNames.{AreNames};
 
+use crate::columns::{ColumnNames, columns_in};
 use crate::rule::{before, without_label};
 use crate::token::{is_sign, is_variable};
+use chr_base::program::Program;
 use chr_syntax::{PlacedToken, Sign, next_clause, placed_tokens, without_comments};
 use std::alloc::{AllocError, Global};
 
@@ -14,10 +20,12 @@ pub struct RuleNames {
     names: Vec<String>,
 }
 
-/// The names of the variables of each rule, in the order of the rules.
-#[derive(Drop)]
+/// The names in the text of a program.
 pub struct Names {
+    /// Those of the variables of each rule, in the order of the rules.
     rules: Vec<RuleNames>,
+    /// Those of columns.
+    pub columns: Vec<ColumnNames>,
 }
 
 impl RuleNames {
@@ -44,6 +52,16 @@ impl RuleNames {
     }
 }
 
+/// What is derived would be proved again in each crate that lets names go.
+impl Drop for Names {
+    fn drop(self) {
+        let Names {
+            rules: _rules,
+            columns: _columns,
+        } = self;
+    }
+}
+
 /// The names of the variables of a rule with these tokens. They are numbered as they are met in its heads.
 fn rule_names(alloc: Global, tokens: &[PlacedToken<'_>]) -> Result<RuleNames, AllocError> {
     let mut names = RuleNames {
@@ -65,23 +83,32 @@ pub(crate) fn is_rule(tokens: &[PlacedToken<'_>]) -> bool {
     }
 }
 
+/// The names of the variables of each rule in the text of a program.
+fn all_rule_names(alloc: Global, text: &[u8]) -> Result<Vec<RuleNames>, AllocError> {
+    let plain = without_comments(alloc, text)?;
+    let stops = plain.iter().filter(|byte| **byte == b'.').count();
+    let mut rules = Vec::new(alloc);
+    let mut rest = plain.as_slice();
+    for _ in 0..stops {
+        if let Some((clause, after)) = next_clause(rest) {
+            let tokens = placed_tokens(alloc, clause)?;
+            if is_rule(&tokens) {
+                rules.push(rule_names(alloc, &tokens)?)?;
+            }
+            rest = after;
+        }
+    }
+    Ok(rules)
+}
+
 impl Names {
     /// The names in the text of a program.
-    pub fn of(alloc: Global, text: &[u8]) -> Result<Names, AllocError> {
-        let plain = without_comments(alloc, text)?;
-        let stops = plain.iter().filter(|byte| **byte == b'.').count();
-        let mut rules = Vec::new(alloc);
-        let mut rest = plain.as_slice();
-        for _ in 0..stops {
-            if let Some((clause, after)) = next_clause(rest) {
-                let tokens = placed_tokens(alloc, clause)?;
-                if is_rule(&tokens) {
-                    rules.push(rule_names(alloc, &tokens)?)?;
-                }
-                rest = after;
-            }
-        }
-        Ok(Names { rules })
+    pub fn of(alloc: Global, text: &[u8], program: &Program) -> Result<Names, AllocError>
+        ensures { IfOk result (λ n. All (AreNames (declarations program.now)) n.columns.items) }
+    {
+        let rules = all_rule_names(alloc, text)?;
+        let columns = columns_in(alloc, text, program)?;
+        Ok(Names { rules, columns })
     }
 
     /// Those of the rule of this number, counted from 1.

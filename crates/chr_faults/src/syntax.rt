@@ -3,7 +3,6 @@
 use crate::rule::first_of;
 use crate::token::{is_name, is_sign, is_term};
 use chr_syntax::{PlacedToken, Sign, Token};
-use std::fmt;
 
 /// Whether an atom is a head or stands in a body.
 #[derive(Clone, Copy, Debug, PartialEq, Eq)]
@@ -362,9 +361,10 @@ impl Stuck<'_> {
     }
 }
 
-impl fmt::Display for Wanted {
-    fn fmt<W: fmt::Write>(&self, f: &mut fmt::Formatter<W>) -> fmt::Result {
-        f.write_str(match self {
+impl Wanted {
+    /// What it is in words.
+    pub(crate) fn text(self) -> &'static str {
+        match self {
             Wanted::Clause => "`:-` or a head",
             Wanted::LabelEnd => "`@`",
             Wanted::Item(Side::Head) => "a head",
@@ -388,6 +388,6 @@ impl fmt::Display for Wanted {
             Wanted::FirstNumber | Wanted::SecondNumber => "a number",
             Wanted::Library(_) => "`(library(chr))`",
             Wanted::End => "the full stop",
-        })
+        }
     }
 }

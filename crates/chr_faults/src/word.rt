@@ -1,35 +1,7 @@
-//! Words of a text, as they are told.
+//! Symbols of a text, as they are told.
 
-use crate::limits::MAX_TOLD_BYTES;
-use crate::line::shown;
-use std::fmt;
-
-/// The bytes of a text, of which `MAX_TOLD_BYTES` are told at most.
-#[derive(Clone, Copy)]
-pub(crate) struct ToldBytes<'a>(pub &'a [u8]);
-
-impl fmt::Display for ToldBytes<'_> {
-    fn fmt<W: fmt::Write>(&self, f: &mut fmt::Formatter<W>) -> fmt::Result {
-        for byte in self.0.iter().take(MAX_TOLD_BYTES) {
-            f.write_char(shown(*byte))?;
-        }
-        f.write_str(if self.0.len() > MAX_TOLD_BYTES {
-            ".."
-        } else {
-            ""
-        })
-    }
-}
-
-/// A word of a text, which is told between back quotes.
-#[derive(Clone, Copy)]
-pub(crate) struct ToldWord<'a>(pub &'a [u8]);
-
-impl fmt::Display for ToldWord<'_> {
-    fn fmt<W: fmt::Write>(&self, f: &mut fmt::Formatter<W>) -> fmt::Result {
-        write!(f, "`{}`", ToldBytes(self.0))
-    }
-}
+use crate::part::{push_number, push_word};
+use std::alloc::AllocError;
 
 /// How many arguments a symbol has.
 #[derive(Clone, Copy)]
@@ -52,6 +24,14 @@ impl ToldArity<'_> {
             ToldArity::Number(number) => Some(*number as u64),
         }
     }
+
+    /// Adds the number, between these.
+    fn push(&self, out: &mut String, before: &str, behind: &str) -> Result<(), AllocError> {
+        match self {
+            ToldArity::Digits(digits) => push_word(out, before, digits, behind),
+            ToldArity::Number(number) => push_number(out, before, *number as u64, behind),
+        }
+    }
 }
 
 /// A symbol as a text has it.
@@ -61,16 +41,10 @@ pub(crate) struct ToldSymbol<'a> {
     pub arity: ToldArity<'a>,
 }
 
-impl fmt::Display for ToldSymbol<'_> {
-    fn fmt<W: fmt::Write>(&self, f: &mut fmt::Formatter<W>) -> fmt::Result {
-        match self.arity {
-            ToldArity::Digits(digits) => write!(
-                f,
-                "`{}/{}`",
-                ToldBytes(self.name),
-                ToldBytes(digits)
-            ),
-            ToldArity::Number(number) => write!(f, "`{}/{number}`", ToldBytes(self.name)),
-        }
+impl ToldSymbol<'_> {
+    /// Adds its name and its number of arguments, between back quotes.
+    pub(crate) fn push(&self, out: &mut String) -> Result<(), AllocError> {
+        push_word(out, "`", self.name, "")?;
+        self.arity.push(out, "/", "`")
     }
 }

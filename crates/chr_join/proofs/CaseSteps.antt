@@ -16,7 +16,7 @@ use Rattle.chr_overlaps.specs.declared.overlap.Overlap.{Overlap}
 use Rattle.chr_overlaps.specs.declared.cases.Case.{Case}
 use Rattle.chr_overlaps.specs.OverlapLists.{IsOverlapOf}
 use Rattle.chr_overlaps.specs.CaseLists.{case_at}
-use Rattle.chr_sorts.specs.laws.SortedCases.{SortedAreCases}
+use Rattle.chr_confluence.specs.laws.SortedCases.{SortedAreCases}
 use Rattle.chr_join.specs.declared.coverage.Coverage.{Coverage}
 use Rattle.chr_join.specs.declared.coverage.Coverage.TheVariants.{Joint, Sorted}
 use Rattle.chr_join.specs.Coverages.{AreCasesBy}

@@ -18,8 +18,8 @@ use Rattle.chr_base.specs.Stores.{Store}
 use Rattle.chr_confluence.specs.Overlaps.{IsOverlap}
 use Rattle.chr_confluence.specs.Representatives.{guards_hold}
 use Rattle.chr_confluence.specs.Unifiers.{Substitution, IsMostGeneralUnifier, HasNoUnifier}
-use Rattle.chr_sorts.specs.Sorts.{Sorts}
-use Rattle.chr_sorts.specs.SortedCases.{all_equations}
+use Rattle.chr_confluence.specs.Sorts.{Sorts}
+use Rattle.chr_confluence.specs.SortedCases.{all_equations}
 use Rattle.chr_sorting.specs.FinestSorts.{AreFinest}
 use Rattle.chr_rewrite.specs.Derivations.{LeadsTo}
 use Rattle.chr_sorting.specs.SortedCaseLists.{AreSortedListed}

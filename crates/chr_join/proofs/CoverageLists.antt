@@ -7,8 +7,8 @@ use Rattle.chr_base.specs.declared.rule.Rule.{Rule}
 use Rattle.chr_confluence.specs.Unifiers.{Substitution, IsMostGeneralUnifier, HasNoUnifier}
 use Rattle.chr_confluence.specs.Representatives.{guards_hold}
 use Rattle.chr_confluence.proofs.Solutions.{one_solution}
-use Rattle.chr_sorts.specs.Sorts.{Sorts}
-use Rattle.chr_sorts.specs.SortedCases.{all_equations, class_sorts}
+use Rattle.chr_confluence.specs.Sorts.{Sorts}
+use Rattle.chr_confluence.specs.SortedCases.{all_equations, class_sorts}
 use Rattle.chr_overlaps.specs.declared.overlap.Overlap.{Overlap}
 use Rattle.chr_overlaps.specs.declared.cases.Case.{Case}
 use Rattle.chr_overlaps.specs.CaseLists.{case_at}

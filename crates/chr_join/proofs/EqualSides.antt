@@ -20,9 +20,9 @@ use Rattle.chr_confluence.specs.Lowering.{RulesLower}
 use Rattle.chr_confluence.specs.Representatives.{assignment, guards_hold, left_at, right_at}
 use Rattle.chr_confluence.specs.Unifiers.{Substitution}
 use Rattle.chr_confluence.specs.laws.Peaks.{LeftSideIsStep, RightSideIsStep}
-use Rattle.chr_sorts.specs.Sorts.{Sorts}
-use Rattle.chr_sorts.specs.SortedCases.{class_sorts}
-use Rattle.chr_sorts.specs.laws.SortedCases.{SortedAreCases}
+use Rattle.chr_confluence.specs.Sorts.{Sorts}
+use Rattle.chr_confluence.specs.SortedCases.{class_sorts}
+use Rattle.chr_confluence.specs.laws.SortedCases.{SortedAreCases}
 use Rattle.chr_sorting.specs.FinestSorts.{AreFinest}
 use Rattle.chr_sorting.specs.SortedCaseLists.{AreCombinations}
 use Rattle.chr_overlaps.specs.declared.cases.TheConstants.{MAX_TYPES}

@@ -15,10 +15,10 @@ use Rattle.chr_confluence.specs.laws.ListedCases.{ListedMakeConfluent, FailingLi
 use Rattle.chr_confluence.specs.Unifiers.{HasNoUnifier}
 use Rattle.chr_confluence.specs.Overlaps.{IsMatching}
 use Rattle.chr_confluence.specs.Representatives.{free_variables, left_at, right_at, guards_hold}
-use Rattle.chr_sorts.specs.Sorts.{Sorts}
-use Rattle.chr_sorts.specs.SortedCases.{all_equations, class_sorts, joint_sort, SortedOverlapIsJoinable}
-use Rattle.chr_sorts.specs.SortedCases.{SortedAreJoinable}
-use Rattle.chr_sorts.specs.laws.SortedCases.{SortedMakeConfluent, FailingSortedRefutes}
+use Rattle.chr_confluence.specs.Sorts.{Sorts}
+use Rattle.chr_confluence.specs.SortedCases.{all_equations, class_sorts, joint_sort, SortedOverlapIsJoinable}
+use Rattle.chr_confluence.specs.SortedCases.{SortedAreJoinable}
+use Rattle.chr_confluence.specs.laws.SortedCases.{SortedMakeConfluent, FailingSortedRefutes}
 use Rattle.chr_overlaps.specs.declared.overlap.Overlap.{Overlap}
 use Rattle.chr_overlaps.specs.declared.cases.Case.{Case}
 use Rattle.chr_overlaps.specs.OverlapLists.{AreOverlaps, IsOverlapOf}

@@ -26,7 +26,7 @@ use Rattle.chr_confluence.specs.Representatives.{guards_hold, left_at, right_at}
 use Rattle.chr_confluence.specs.Unifiers.{HasNoUnifier}
 use Rattle.chr_confluence.proofs.CaseSteps as confluence
 use Rattle.chr_confluence.proofs.Listed.{listed_case}
-use Rattle.chr_sorts.proofs.SortedCases.{sorted_case}
+use Rattle.chr_confluence.proofs.SortedCases.{sorted_case}
 use Rattle.chr_overlaps.specs.declared.overlap.Overlap.{Overlap}
 use Rattle.chr_overlaps.specs.declared.cases.Case.{Case}
 use Rattle.chr_overlaps.specs.CaseLists.{case_at, AreCases, AreListed, IsTooMany}

@@ -15,9 +15,9 @@ use Rattle.chr_confluence.specs.Representatives.{guards_hold}
 use Rattle.chr_confluence.specs.Unifiers.{IsMostGeneralUnifier}
 use Rattle.chr_confluence.specs.laws.ListedCases.{ListedAreCases}
 use Rattle.chr_confluence.specs.laws.Peaks.{LeftSideIsStep, RightSideIsStep}
-use Rattle.chr_sorts.specs.Sorts.{Sorts}
-use Rattle.chr_sorts.specs.SortedCases.{all_equations, class_sorts}
-use Rattle.chr_sorts.specs.laws.SortedCases.{SortedAreCases}
+use Rattle.chr_confluence.specs.Sorts.{Sorts}
+use Rattle.chr_confluence.specs.SortedCases.{all_equations, class_sorts}
+use Rattle.chr_confluence.specs.laws.SortedCases.{SortedAreCases}
 use Rattle.chr_overlaps.specs.declared.overlap.Overlap.{Overlap}
 use Rattle.chr_overlaps.specs.declared.unify.Unified.{Unified}
 use Rattle.chr_sorting.specs.FinestSorts.{AreFinest}

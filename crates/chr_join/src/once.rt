@@ -5,8 +5,8 @@ ghost use Rattle.chr_join.specs.working.Counting.{JointCasesJoin};
 
 use chr_confluence::laws::peak;
 use chr_confluence::listing::{listed_cases, listed_confluence};
+use chr_confluence::sorted_laws::{sorted_cases, sorted_confluence};
 use chr_sorting::laws::combinations;
-use chr_sorts::laws::{sorted_cases, sorted_confluence};
 
 /// There is a verdict on each program that lowers: it is accepted, or there is a first cause for which it is refused, a
 /// case that fails or an overlap of more than 50,000 order types.

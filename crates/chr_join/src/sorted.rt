@@ -1,7 +1,7 @@
 //! The sorted cases of an overlap.
 ghost use Rattle.std.specs.Prelude.{◌≡◌, IfOk, IfErr};
 ghost use Rattle.chr_weights.specs.WeighedPrograms.{rules_in};
-ghost use Rattle.chr_sorts.specs.SortedCases.{class_sorts};
+ghost use Rattle.chr_confluence.specs.SortedCases.{class_sorts};
 ghost use Rattle.chr_overlaps.specs.OverlapLists.{IsOverlapOf};
 ghost use Rattle.chr_overlaps.specs.declared.cases.TheConstants.{MAX_TYPES};
 ghost use Rattle.chr_overlaps.specs.UnifiedOverlaps.{AreRulesOf, IsSortedUnifiedAt};
@@ -15,10 +15,10 @@ ghost use Rattle.chr_join.specs.working.Checking.{RefusesAt};
 
 use crate::checker::{Checker, told};
 use crate::refused::{Cause, TooManyTypes};
+use chr_confluence::sorted_laws::sorted_cases;
 use chr_overlaps::cases::{MAX_TYPES, rule_of, sorted_unified};
 use chr_overlaps::{Overlap, Unified};
 use chr_sorting::{Sorting, class_sorts, has_more_combinations, visit_combinations};
-use chr_sorts::laws::sorted_cases;
 use chr_weights::Weighed;
 use std::alloc::{AllocError, Global};
 

@@ -9,7 +9,6 @@ use Rattle.json.proofs.Printed.Utf8.{IsUtf8-are_ascii}
 use Rattle.serde_json.specs.Data.{Data, string, depth, items_depth}
 use Rattle.serde_json.specs.Read.{max_depth, read}
 use Rattle.serde_json.specs.View.{items_of}
-use Rattle.serde_json.specs.Written.{compact_text}
 use Rattle.chr_json.specs.declared.command.DeltaVersion.{DeltaVersion}
 use Rattle.chr_json.specs.declared.command.DeltaVersion.TheVariants as version
 use Rattle.chr_json.specs.NamedAtoms.{NamedAtom}
@@ -19,6 +18,7 @@ use Rattle.chr_json.specs.declared.limits.TheConstants.{MAX_LINE}
 use Rattle.chr_json.specs.Reads.{value_said, line_said}
 use Rattle.chr_json.specs.Texts.{command_text, IsWithinTextLimits, CommandTextsAreSaid}
 use Rattle.chr_json.specs.Values.{json_in}
+use Rattle.chr_json.specs.working.Compact.{IsTextOf}
 use Rattle.chr_json.specs.WrittenCommands.{version_data, said_data, word_of, command_data}
 use Rattle.chr_json.specs.Printed.{argument_data, atom_data, ArgumentsFit}
 use Rattle.chr_json.specs.Messages.{array_data}
@@ -26,6 +26,7 @@ use Rattle.chr_json.proofs.CommandsBack.{commands_back}
 use Rattle.chr_json.proofs.Laws.{json_some}
 use Rattle.chr_json.proofs.MessagesBack.{summary_writable, delta_2_writable}
 use Rattle.chr_json.proofs.Reading.{IsPlain, ArePlain, texts_read}
+use Rattle.chr_json.proofs.PartedTexts.{parted_texts_read}
 use Rattle.chr_json.proofs.Writable.{IsWritable, deeper, name_writable, natural_writable, array_writable}
 
 -- ---- the value of a tell is plain, and at most four deep
@@ -66,44 +67,51 @@ words_writable : (s : Said) (ds : List Data) → IsUtf8 (word_of s) → AllByRec
     → IsWritable 8 (array_data (string (word_of s) ∷ ds))
 words_writable s ds word h = array_writable 7 (string (word_of s) ∷ ds) (name_writable 7 (word_of s) word, h)
 
-writable_command : (s : Said) → IsWritable 8 (command_data s) → read (compact_text (command_data s))
-    ≡ Some (command_data s)
-writable_command s h = texts_read (command_data s) h.plain (omega (arith, h.shallow))
+-- a command's value is plain, and not deep
+abbrev IsReadable : Data → Type 0
+IsReadable d = IsPlain d × (depth d ≤ max_depth)
 
--- a command's text is read as its value
-command_text_read : (s : Said) → IsWithinTextLimits s → read (compact_text (command_data s)) ≡ Some (command_data s)
-command_text_read (tell r o n ws) h = texts_read (command_data (tell r o n ws)) (plain_tell r o n ws h)
-    (tell_depth r o n ws)
-command_text_read (show r) h =
+writable_command : (s : Said) → IsWritable 8 (command_data s) → IsReadable (command_data s)
+writable_command s h = (h.plain, omega (arith, h.shallow))
+
+readable_command : (s : Said) → IsWithinTextLimits s → IsReadable (command_data s)
+readable_command (tell r o n ws) h = (plain_tell r o n ws h, tell_depth r o n ws)
+readable_command (show r) h =
     writable_command (show r) (words_writable (show r) (said_data (show r)) (IsUtf8-are_ascii _ refl)
     (natural_writable 7 r h.1, tt))
-command_text_read (summary r) h =
+readable_command (summary r) h =
     writable_command (summary r) (words_writable (summary r) (said_data (summary r)) (IsUtf8-are_ascii _ refl)
     (natural_writable 7 r h.1, tt))
-command_text_read (sync a b) h =
+readable_command (sync a b) h =
     writable_command (sync a b)
     (words_writable (sync a b) (said_data (sync a b)) (IsUtf8-are_ascii _ refl)
     (natural_writable 7 a h.1.0, (natural_writable 7 b h.1.1, tt)))
-command_text_read (lacks r rs v) h =
+readable_command (lacks r rs v) h =
     writable_command (lacks r rs v)
     (words_writable (lacks r rs v) (said_data (lacks r rs v)) (IsUtf8-are_ascii _ refl)
     (natural_writable 7 r h.1, (deeper 4 7 _ (omega arith) (summary_writable rs h.0), version_writable v)))
-command_text_read (merge r os) h =
+readable_command (merge r os) h =
     writable_command (merge r os)
     (words_writable (merge r os) (said_data (merge r os)) (IsUtf8-are_ascii _ refl)
     (natural_writable 7 r h.1, (delta_2_writable os h.0, tt)))
 
 -- ---- a line of a command's text says the command
 
-pub texts_are_said : CommandTextsAreSaid
-texts_are_said s h utf8 within =
-    let text = command_text s in
-    ap (λ b. cond b (value_said (json_in text)) (Err fault.BadLine)) (le-leb (length text) MAX_LINE within)
-    ∙ ap value_said (json_some text (command_data s) utf8 (command_text_read s h))
+value_is_said : (line : List ℕ) (s : Said) → read line ≡ Some (command_data s) → IsWithinTextLimits s → IsUtf8 line
+    → length line ≤ MAX_LINE → line_said line ≡ Ok s
+value_is_said line s value h utf8 within =
+    ap (λ b. cond b (value_said (json_in line)) (Err fault.BadLine)) (le-leb (length line) MAX_LINE within)
+    ∙ ap value_said (json_some line (command_data s) utf8 value)
     ∙ ap (λ o. ok_or o fault.Shape) (commands_back s h.0)
 
+pub texts_are_said : CommandTextsAreSaid
+texts_are_said s h utf8 within =
+    let is = readable_command s h in
+    value_is_said (command_text s) s (texts_read (command_data s) is.0 is.1) h utf8 within
+
 -- a line that is known to be a command's text says the command
-pub line_is_said : (line : List ℕ) (s : Said) → line ≡ command_text s → IsWithinTextLimits s → IsUtf8 line
+pub line_is_said : (line : List ℕ) (s : Said) → IsTextOf line s → IsWithinTextLimits s → IsUtf8 line
     → length line ≤ MAX_LINE → line_said line ≡ Ok s
-line_is_said line s is h utf8 within =
-    ap line_said is ∙ texts_are_said s h (subst IsUtf8 is utf8) (subst (λ l. length l ≤ MAX_LINE) is within)
+line_is_said line s (k, is) h utf8 within =
+    let can = readable_command s h in
+    value_is_said line s (ap read is ∙ parted_texts_read k (command_data s) can.0 can.1) h utf8 within

@@ -6,6 +6,7 @@ pub mod Pieces
 pub mod Lists
 pub mod Texts
 pub mod Reading
+pub mod PartedTexts
 pub mod Joined
 pub mod Writable
 pub mod MessagesBack

@@ -24,11 +24,11 @@ IsWhole (negative (pos n)) = ⊥
 IsWhole (negative (negsuc n)) = n < 2 ^ 63
 IsWhole (float x) = ⊥
 
--- neither a float nor an object, at any depth
+-- whole numbers, texts, and arrays of these
 abbrev mutual
   pub IsPlain : Data → Type 0
-  IsPlain null = ⊤
-  IsPlain (boolean b) = ⊤
+  IsPlain null = ⊥
+  IsPlain (boolean b) = ⊥
   IsPlain (number n) = IsWhole n
   IsPlain (string s) = ⊤
   IsPlain (array ds) = ArePlain ds
@@ -46,7 +46,7 @@ number_back (negative (pos n)) h = absurd h
 number_back (negative (negsuc n)) h = number_of-negative n h
 number_back (float x) h = absurd h
 
-is_number : (n : Num) → IsWhole n → IsNumber (number_text n)
+pub is_number : (n : Num) → IsWhole n → IsNumber (number_text n)
 is_number (unsigned n) h = IsNumber-decimal n h
 is_number (negative (pos n)) h = absurd h
 is_number (negative (negsuc n)) h = IsNumber-signed_decimal (negsuc n) h
@@ -54,8 +54,8 @@ is_number (float x) h = absurd h
 
 mutual
   value_back : (d : Data) → IsPlain d → of_json (outline d) ≡ Some d
-  value_back null h = refl
-  value_back (boolean b) h = refl
+  value_back null h = absurd h
+  value_back (boolean b) h = absurd h
   value_back (number n) h = ap (option_map number) (number_back n h)
   value_back (string s) h = refl
   value_back (array ds) h = ap (option_map array) (items_back ds h)
@@ -68,8 +68,8 @@ mutual
 
 mutual
   value_numbers : (d : Data) → IsPlain d → tree.HasNumbers (outline d)
-  value_numbers null h = tt
-  value_numbers (boolean b) h = tt
+  value_numbers null h = absurd h
+  value_numbers (boolean b) h = absurd h
   value_numbers (number n) h = is_number n h
   value_numbers (string s) h = tt
   value_numbers (array ds) h = items_numbers ds h
@@ -81,8 +81,8 @@ mutual
 
 mutual
   value_depth : (d : Data) → IsPlain d → tree.depth (outline d) ≡ depth d
-  value_depth null h = refl
-  value_depth (boolean b) h = refl
+  value_depth null h = absurd h
+  value_depth (boolean b) h = absurd h
   value_depth (number n) h = refl
   value_depth (string s) h = refl
   value_depth (array ds) h = ap suc (items_depth_same ds h)
@@ -93,7 +93,7 @@ mutual
   items_depth_same (item d ds) h = λ i. max (value_depth d h.0 i) (items_depth_same ds h.1 i)
 
 -- what the reader makes of a parse
-abbrev whole : Option (json.Json × List Token) → Option Data
+abbrev pub whole : Option (json.Json × List Token) → Option Data
 whole o = option_and_then of_json (option_and_then (λ p. json.if_last p.0 p.1) o)
 
 pub texts_read : (d : Data) → IsPlain d → depth d ≤ max_depth → read (compact_text d) ≡ Some d

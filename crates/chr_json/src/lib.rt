@@ -5,6 +5,7 @@
 #![tactic(auto)]
 
 mod atom;
+mod comma;
 mod command;
 mod compact;
 mod delta;

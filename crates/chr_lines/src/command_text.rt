@@ -1,8 +1,10 @@
 //! What keeps a JSON value from being a command, in sentences.
 
 use crate::json_text::push_bytes;
-use crate::mistake::{Found, NoCommand, Wanted, Word};
+use crate::lines_text::Source;
+use crate::mistake::{ArgumentPlace, Found, NoCommand, Wanted, Word};
 use crate::pieces::text_bytes;
+use chr_faults::{columns_of, push_number, push_text, push_word};
 use std::alloc::AllocError;
 
 /// What a word takes, with an example.
@@ -67,7 +69,7 @@ fn wanted_text(wanted: Wanted) -> &'static str {
             "an operation has 1 to 64 atoms in an array, as `[[\"coin\"],[\"path\",1,2,7]]`",
         Wanted::Atom => "an atom is an array of its name and its arguments, as `[\"path\",1,2,7]`",
         Wanted::Name => "an atom begins with its name in double quotes, as `[\"coin\"]`",
-        Wanted::Argument => { "an argument is a whole number of 64 bits" }
+        Wanted::Argument(_) => " is a whole number of 64 bits",
         wanted => message_text(wanted),
     }
 }
@@ -97,10 +99,10 @@ fn advice(it: NoCommand) -> Option<&'static str> {
         (Wanted::Atom, Found::Text | Found::Digits) => {
             Some("a pair of brackets is missing: write `[[\"coin\"]]` for `[\"coin\"]`")
         }
-        (Wanted::Argument, Found::Text) => {
+        (Wanted::Argument(_), Found::Text) => {
             Some("give each name a number of its own, and write that")
         }
-        (Wanted::Argument, Found::Fraction) => {
+        (Wanted::Argument(_), Found::Fraction) => {
             Some("count in a smaller unit, as 250 hundredths for 2.5")
         }
         (_, Found::Digits) => Some("write the number without double quotes"),
@@ -108,12 +110,46 @@ fn advice(it: NoCommand) -> Option<&'static str> {
     }
 }
 
+/// The name of the column of an argument, where the program's text gives it one.
+fn column_of<'a>(source: Source<'a>, name: &[u8], place: ArgumentPlace) -> Option<&'a str> {
+    let symbol = source
+        .program
+        .symbol(str::from_utf8(name).ok()?, place.arity)?;
+    columns_of(source.columns, symbol)?.name(place.number)
+}
+
+/// Adds the name of a column, where there is one.
+fn push_column(out: &mut String, column: Option<&str>) -> Result<(), AllocError> {
+    match column {
+        Some(column) => push_text(out, " (", column, ")"),
+        None => Ok(()),
+    }
+}
+
+/// Adds which argument of which atom it is.
+fn push_argument(
+    out: &mut String,
+    source: Source<'_>,
+    line: &[u8],
+    place: ArgumentPlace,
+) -> Result<(), AllocError> {
+    let quoted = text_bytes(line, place.name_at);
+    let name = quoted.get(1..quoted.len().saturating_sub(1)).unwrap_or(&[]);
+    push_number(out, "argument ", place.number.saturating_add(1) as u64, "")?;
+    push_column(out, column_of(source, name, place))?;
+    push_word(out, " of `", name, "`")
+}
+
 /// Tells what keeps a JSON value from being a command.
 pub(crate) fn push_no_command(
     out: &mut String,
+    source: Source<'_>,
     line: &[u8],
     it: NoCommand,
 ) -> Result<(), AllocError> {
+    if let Wanted::Argument(place) = it.wanted {
+        push_argument(out, source, line, place)?;
+    }
     out.push_str(wanted_text(it.wanted))?;
     if matches!((it.wanted, it.found), (Wanted::Word, Found::Text)) {
         out.push_str("; `")?;

@@ -3,9 +3,8 @@
 use crate::json::word_at;
 use crate::limits::{MAX_DEPTH, MAX_TOLD_NAME};
 use crate::mistake::{JsonFault, NoJson};
-use chr_faults::shown;
+use chr_faults::{push_number, shown};
 use std::alloc::AllocError;
-use std::fmt::Write;
 
 /// What a command line is.
 const COMMAND: &str =
@@ -29,7 +28,7 @@ fn push_ends(out: &mut String, brackets: usize) -> Result<(), AllocError> {
     if brackets == 1 {
         return out.push_str("a closing bracket is missing");
     }
-    Ok(write!(out, "{brackets} closing brackets are missing")?)
+    push_number(out, "", brackets as u64, " closing brackets are missing")
 }
 
 /// Tells that a word stands where a value belongs.
@@ -84,7 +83,10 @@ pub(crate) fn push_no_json(out: &mut String, line: &[u8], it: NoJson) -> Result<
         JsonFault::Ends(brackets) => push_ends(out, brackets),
         JsonFault::Word => push_word(out, line, it.at),
         JsonFault::Sign => out.push_str(sign_text(line, it.at)),
-        JsonFault::Depth => Ok(write!(out, "more than {MAX_DEPTH} brackets stand in one another")?),
+        JsonFault::Depth => {
+            let behind = " brackets stand in one another";
+            push_number(out, "more than ", MAX_DEPTH as u64, behind)
+        }
         fault => out.push_str(plain_text(fault)),
     }
 }

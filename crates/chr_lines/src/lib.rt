@@ -18,5 +18,6 @@ pub use heard::{Heard, line_heard};
 pub use limits::MAX_TOLD_LINES;
 pub use lines_text::push_lines;
 pub use mistake::{
-    Found, JsonFault, Mistake, NoCommand, NoJson, NoReplica, Undeclared, Wanted, Word,
+    ArgumentPlace, Found, JsonFault, Mistake, NoCommand, NoJson, NoReplica, Undeclared, Wanted,
+    Word,
 };

@@ -7,50 +7,63 @@ use crate::mistake::Mistake;
 use crate::symbol_text::push_undeclared;
 use chr_base::limits::MAX_REPLICAS;
 use chr_base::program::Program;
-use chr_faults::push_line;
+use chr_faults::{ColumnNames, columns_in, push_line, push_number};
 use chr_json::MAX_LINE;
 use std::alloc::{AllocError, Global};
-use std::fmt::Write;
+
+/// A program, with the names that its text gives columns.
+#[derive(Clone, Copy)]
+pub(crate) struct Source<'a> {
+    pub program: &'a Program,
+    pub columns: &'a [ColumnNames],
+}
 
 /// Tells what is wrong with a line.
 fn push_mistake(
     out: &mut String,
-    program: &Program,
+    source: Source<'_>,
     line: &[u8],
     mistake: &Mistake,
 ) -> Result<(), AllocError> {
     match mistake {
-        Mistake::TooLong => Ok(write!(
+        Mistake::TooLong => push_number(
             out,
-            "the line has more than {MAX_LINE} bytes: write several"
-        )?),
+            "the line has more than ",
+            MAX_LINE as u64,
+            " bytes: write several",
+        ),
         Mistake::NoJson(it) => push_no_json(out, line, *it),
-        Mistake::NoCommand(it) => push_no_command(out, line, *it),
-        Mistake::Undeclared(it) => push_undeclared(out, program, it),
-        Mistake::NoReplica(it) => Ok(write!(
-            out,
-            "there is no replica {}: they have the numbers from 1 on, up to {MAX_REPLICAS}",
-            it.replica
-        )?),
+        Mistake::NoCommand(it) => push_no_command(out, source, line, *it),
+        Mistake::Undeclared(it) => push_undeclared(out, source, it),
+        Mistake::NoReplica(it) => {
+            push_number(
+                out,
+                "there is no replica ",
+                it.replica,
+                ": they have the numbers from 1 on",
+            )?;
+            push_number(out, ", up to ", u64::from(MAX_REPLICAS), "")
+        }
     }
+}
+
+/// Adds where a line is refused, and as which number.
+fn push_place(out: &mut String, refused: &RefusedLine<'_>, at: usize) -> Result<(), AllocError> {
+    push_number(out, "line ", refused.number as u64, "")?;
+    push_number(out, ", column ", at.saturating_add(1) as u64, "")?;
+    push_number(out, ", refused ", u64::from(refused.mistake.number()), ": ")
 }
 
 /// Tells of a refused line: where, why, the line itself, and what would be right.
 fn push_refused(
     out: &mut String,
-    program: &Program,
+    source: Source<'_>,
     refused: &RefusedLine<'_>,
 ) -> Result<(), AllocError> {
     let mistake = &refused.mistake;
     let at = mistake.at().min(refused.line.len());
-    write!(
-        out,
-        "line {}, column {}, refused {}: ",
-        refused.number,
-        at.saturating_add(1),
-        mistake.number()
-    )?;
-    push_mistake(out, program, refused.line, mistake)?;
+    push_place(out, refused, at)?;
+    push_mistake(out, source, refused.line, mistake)?;
     out.push_str("\n")?;
     push_line(out, refused.line, at)?;
     match mistake {
@@ -61,22 +74,24 @@ fn push_refused(
 
 /// Tells how many lines there are, and how many of them are refused.
 fn push_counts(out: &mut String, heard: &LinesHeard<'_>) -> Result<(), AllocError> {
-    write!(out, "Command lines: {}", heard.count)?;
+    push_number(out, "Command lines: ", heard.count as u64, "")?;
     if heard.refused == 0 {
         return out.push_str(", none of them refused for what it says.\n");
     }
-    Ok(write!(
+    let refused = heard.refused as u64;
+    push_number(
         out,
-        ", of which `run` refuses {}, whatever came before:\n",
-        heard.refused
-    )?)
+        ", of which `run` refuses ",
+        refused,
+        ", whatever came before:\n",
+    )
 }
 
 /// Tells how many more lines are refused.
 fn push_more(out: &mut String, heard: &LinesHeard<'_>) -> Result<(), AllocError> {
     match heard.refused.saturating_sub(heard.told.len()) {
         0 => Ok(()),
-        more => Ok(write!(out, "and {more} more\n")?),
+        more => push_number(out, "and ", more as u64, " more\n"),
     }
 }
 
@@ -85,22 +100,24 @@ fn push_replicas(out: &mut String, heard: &LinesHeard<'_>) -> Result<(), AllocEr
     let Some(first) = heard.first else {
         return Ok(());
     };
-    Ok(write!(
+    push_number(
         out,
-        "The lines want `--replicas {}`: with fewer, `run` refuses lines as 35; without it, line {first} is the first.\n",
-        heard.replicas
-    )?)
+        "The lines want `--replicas ",
+        heard.replicas,
+        "`: with fewer, `run` refuses lines as 35",
+    )?;
+    push_number(out, "; without it, line ", first as u64, " is the first.\n")
 }
 
 /// Adds what a run makes of the lines of an input.
 fn push_heard(
     out: &mut String,
-    program: &Program,
+    source: Source<'_>,
     heard: &LinesHeard<'_>,
 ) -> Result<(), AllocError> {
     push_counts(out, heard)?;
     for refused in &heard.told {
-        push_refused(out, program, refused)?;
+        push_refused(out, source, refused)?;
     }
     push_more(out, heard)?;
     push_replicas(out, heard)?;
@@ -127,5 +144,10 @@ pub fn push_lines(
     if heard.count == 0 {
         return Ok(());
     }
-    push_heard(out, program, &heard)
+    let columns = columns_in(alloc, text, program)?;
+    let source = Source {
+        program,
+        columns: &columns,
+    };
+    push_heard(out, source, &heard)
 }

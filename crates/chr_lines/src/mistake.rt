@@ -60,6 +60,17 @@ pub enum Word {
     Merge,
 }
 
+/// Where an argument belongs.
+#[derive(Clone, Copy)]
+pub struct ArgumentPlace {
+    /// Where the name of its atom stands in the line.
+    pub name_at: usize,
+    /// How many arguments the atom has.
+    pub arity: usize,
+    /// Which of them it is, counted from 0.
+    pub number: usize,
+}
+
 /// What belongs at a place of a command.
 #[derive(Clone, Copy)]
 pub enum Wanted {
@@ -75,7 +86,7 @@ pub enum Wanted {
     Atoms,
     Atom,
     Name,
-    Argument,
+    Argument(ArgumentPlace),
     Summary,
     /// An origin and its ranges.
     OriginRanges,

@@ -1,6 +1,6 @@
 //! What keeps a JSON value from being a command.
 
-use crate::mistake::{Found, NoCommand, Wanted, Word};
+use crate::mistake::{ArgumentPlace, Found, NoCommand, Wanted, Word};
 use crate::pieces::{
     Elements, elements_at, found_at, is_argument, natural_at, text_at, value_start,
 };
@@ -84,16 +84,31 @@ fn id_fault(alloc: Global, line: &[u8], at: usize) -> Checked {
 }
 
 /// A whole number of 64 bits with a sign belongs here, and something else stands here.
-fn argument_fault(line: &[u8], at: usize) -> NoCommand {
+fn argument_fault(line: &[u8], at: usize, place: ArgumentPlace) -> NoCommand {
     let found = match found_at(line, at) {
         Found::Whole => Found::Large,
         other => other,
     };
     NoCommand {
         at,
-        wanted: Wanted::Argument,
+        wanted: Wanted::Argument(place),
         found,
     }
+}
+
+/// The arguments of the atom whose name stands at this place belong here.
+fn arguments_fault(line: &[u8], name_at: usize, starts: &[usize]) -> Option<NoCommand> {
+    for (number, at) in starts.iter().enumerate() {
+        if !is_argument(line, *at) {
+            let place = ArgumentPlace {
+                name_at,
+                arity: starts.len(),
+                number,
+            };
+            return Some(argument_fault(line, *at, place));
+        }
+    }
+    None
 }
 
 /// An atom belongs here.
@@ -105,12 +120,8 @@ fn atom_fault(alloc: Global, line: &[u8], at: usize) -> Checked {
     if !matches!(found_at(line, name), Found::Text | Found::Digits) {
         return is_wrong(line, name, Wanted::Name);
     }
-    let odd = parts
-        .starts
-        .iter()
-        .skip(1)
-        .find(|at| !is_argument(line, **at));
-    Ok(odd.map(|at| argument_fault(line, *at)))
+    let arguments = parts.starts.get(1..).unwrap_or(&[]);
+    Ok(arguments_fault(line, name, arguments))
 }
 
 /// The atoms of an operation belong here.

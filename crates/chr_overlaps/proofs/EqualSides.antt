@@ -22,7 +22,7 @@ use Rattle.chr_base.proofs.Instances.{body_known}
 use Rattle.chr_base.proofs.Stores.{same_store}
 use Rattle.chr_types.specs.OrderTypes.{In}
 use Rattle.chr_types.proofs.Members.{in_first, in_second}
-use Rattle.chr_sorts.proofs.Moves.{all_in}
+use Rattle.chr_confluence.proofs.SortMoves.{all_in}
 use Rattle.chr_confluence.specs.Unifiers.{Substitution}
 use Rattle.chr_confluence.specs.Overlaps.{variables_of, renamed_apart}
 use Rattle.chr_confluence.specs.Representatives.{assignment, free_variables, left_at, right_at}

@@ -9,7 +9,7 @@ use Rattle.chr_base.specs.declared.term.Comparison.{Comparison}
 use Rattle.chr_confluence.specs.Unifiers.{Substitution}
 use Rattle.chr_confluence.specs.Overlaps.{renamed_apart}
 use Rattle.chr_confluence.specs.working.Solving.{class_of, unify_terms, solve}
-use Rattle.chr_sorts.specs.SortedCases.{is_equation, guard_equations, equation_apart}
+use Rattle.chr_confluence.specs.SortedCases.{is_equation, guard_equations, equation_apart}
 
 -- the equations that are left from a comparison on
 abbrev pub left_from : ℕ → List Comparison → ℕ → List (Term × Term)

@@ -3,7 +3,7 @@ use Rattle.std.specs.Prelude.{◌≡◌, ◌-◌, List, Some, slice_get}
 use Rattle.chr_base.specs.declared.rule.Rule.{Rule}
 use Rattle.chr_confluence.specs.Unifiers.{IsMostGeneralUnifier, HasNoUnifier}
 use Rattle.chr_confluence.specs.Overlaps.{equations_of}
-use Rattle.chr_sorts.specs.SortedCases.{all_equations}
+use Rattle.chr_confluence.specs.SortedCases.{all_equations}
 use Rattle.chr_overlaps.specs.declared.overlap.Overlap.{Overlap}
 use Rattle.chr_overlaps.specs.declared.unify.Unified.{Unified}
 use Rattle.chr_overlaps.specs.working.Unifiers.{classes_of, IsUnified}

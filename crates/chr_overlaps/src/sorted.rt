@@ -4,7 +4,7 @@ ghost use Rattle.chr_base.specs.Rules.{heads_of};
 ghost use Rattle.chr_confluence.specs.Unifiers.{IsMostGeneralUnifier, HasNoUnifier};
 ghost use Rattle.chr_confluence.specs.Overlaps.{SameSymbols, variables_of};
 ghost use Rattle.chr_confluence.specs.working.Solving.{solve};
-ghost use Rattle.chr_sorts.specs.SortedCases.{is_equation, guard_equations, equation_apart, all_equations};
+ghost use Rattle.chr_confluence.specs.SortedCases.{is_equation, guard_equations, equation_apart, all_equations};
 ghost use Rattle.chr_overlaps.specs.working.Tables.{class_in};
 ghost use Rattle.chr_overlaps.specs.working.Unifiers.{classes_of, IsUnified};
 

@@ -4,11 +4,10 @@ mod calls;
 mod ends;
 mod lists;
 mod one_end;
+mod programs;
 mod resting;
 mod stores;
 mod texts;
-mod traits;
-mod two_pools;
 mod verdicts;
 
 /// Adds one to a count, where what is counted came.

@@ -2,10 +2,10 @@
 use crate::pools::EIGHT;
 use crate::printing::{answer, call, count, print_bag, print_board, print_done};
 use crate::sets::{Minima, minima, operations};
+use crate::texts::{accepted_of, op_of};
 use chr_base::bag::Bag;
 use chr_ops::Op;
 use chr_replica::{Board, Refusal};
-use chr_replica_testing::{accepted_of, op_of};
 use chr_testing::atoms::bag_of_values;
 use chr_testing::texts::{MINIMUM, step_of, store_of};
 use std::alloc::Global;

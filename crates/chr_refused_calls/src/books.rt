@@ -2,10 +2,10 @@
 use crate::pools::EIGHT;
 use crate::printing::{answer, call, count, print_lease, print_operation, print_set, say};
 use crate::sets::minima;
+use crate::texts::{accepted_of, op_of};
 use chr_acts::{Act, Book, Reply};
 use chr_ops::Op;
 use chr_replica::Refusal;
-use chr_replica_testing::{accepted_of, op_of};
 use chr_testing::texts::MINIMUM;
 use std::alloc::Global;
 use std::thread::Threads;

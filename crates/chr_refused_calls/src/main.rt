@@ -12,6 +12,7 @@ mod pools;
 mod printing;
 mod seats;
 mod sets;
+mod texts;
 mod workers;
 
 use boards::BoardCall;

@@ -1,8 +1,8 @@
 //! Calls on leases. A lease of which nothing came is handed back.
 use crate::printing::{answer, call, print_done, print_lease};
+use crate::texts::accepted_of;
 use chr_join::{Accepted, Lease, StepFault};
 use chr_replica::Refusal;
-use chr_replica_testing::accepted_of;
 use chr_testing::atoms::bag_of_values;
 use chr_testing::texts::{MINIMUM, step_of};
 use std::alloc::Global;

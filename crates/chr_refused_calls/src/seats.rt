@@ -3,9 +3,9 @@ ghost use Rattle.std.specs.Prelude.{◌≡◌};
 
 use crate::pools::EIGHT;
 use crate::printing::{answer, call, count, print_bag, print_operation};
+use crate::texts::{accepted_of, op_of};
 use chr_acts::{Book, Reply};
 use chr_base::program::Program;
-use chr_replica_testing::{accepted_of, op_of};
 use chr_shared::{Naming, Opening, Receipt, Seat, Settled, Shared};
 use chr_workers::OpenGate;
 use std::alloc::Global;

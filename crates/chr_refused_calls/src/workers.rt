@@ -2,8 +2,8 @@
 use crate::boards::grow;
 use crate::printing::{answer_memory, call, print_bag, print_board, print_leases, print_set};
 use crate::sets::minima;
+use crate::texts::accepted_of;
 use chr_replica::Board;
-use chr_replica_testing::accepted_of;
 use chr_testing::texts::MINIMUM;
 use chr_workers::{OpenGate, rest_board};
 use std::alloc::Global;

@@ -1,4 +1,4 @@
-//! Tests of replicas, of what is leased from them, of acts and books, and of workers that rest replicas. There is
+//! Tests of replicas, in public words: limits, a book that is called often, and workers that rest replicas. There is
 //! nothing here but tests.
 #![tactic(auto)]
 

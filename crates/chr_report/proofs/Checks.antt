@@ -7,7 +7,8 @@ use Rattle.chr_read.specs.declared.fault.ReadFault.{ReadFault}
 use Rattle.chr_report.specs.declared.wanted.Wanted.{Wanted}
 use Rattle.chr_report.specs.declared.running.Status.{Status}
 use Rattle.chr_report.specs.declared.running.Status.TheVariants.{Accepted, Refused}
-use Rattle.chr_report.specs.Lines.{lines, commands_of}
+use Rattle.chr_answers.specs.Lines.{lines}
+use Rattle.chr_report.specs.Inputs.{commands_of}
 use Rattle.chr_report.specs.Outputs.{IsReadOutput, accepted_text}
 use Rattle.chr_report.specs.Laws.{ChecksBeginRuns}
 

@@ -21,18 +21,20 @@ use Rattle.chr_report.specs.declared.wanted.Wanted.{Wanted}
 use Rattle.chr_report.specs.Asked.{replicas_by}
 use Rattle.chr_report.specs.declared.running.Status.{Status}
 use Rattle.chr_report.specs.declared.running.Status.TheVariants as status
-use Rattle.chr_report.specs.Lines.{lines}
-use Rattle.chr_report.specs.Answers.{AnswersAll}
-use Rattle.chr_report.specs.OneText.{AnswersExist}
+use Rattle.chr_answers.specs.Lines.{lines}
+use Rattle.chr_answers.specs.Answers.{AnswersAll}
+use Rattle.chr_answers.specs.OneText.{AnswersExist}
 use Rattle.chr_report.specs.Outputs.{IsReadOutput, accepted_text}
-use Rattle.chr_report.specs.working.Answered.{AnswersRest}
-use Rattle.chr_report.specs.working.Serving.{AnswersFront, AnswersChunk, AnswersPart, AnswersFrontRead, AnswersInput}
+use Rattle.chr_answers.specs.Answered.{AnswersRest}
+use Rattle.chr_answers.specs.Answered.{AnswersFront}
+use Rattle.chr_report.specs.working.Serving.{AnswersChunk, AnswersPart, AnswersFrontRead, AnswersInput}
 use Rattle.chr_report.specs.working.Serving.{IsCut, IsOpened, SendsAnswer, AnswersCommands, WritesText}
 use Rattle.chr_report.specs.working.Serving.{WritesTextPart}
-use Rattle.chr_report.proofs.Feeds.{whole_both}
+use Rattle.chr_answers.proofs.Feeds.{whole_both}
 use Rattle.chr_report.proofs.Outcomes.{program_answered}
-use Rattle.chr_report.proofs.Pieces.{part_of_whole, part_after, part_of_more, fronts_join, front_is_answered}
-use Rattle.chr_report.proofs.Pieces.{last_is_answered}
+use Rattle.chr_report.proofs.Pieces.{part_of_whole, part_after, part_of_more}
+use Rattle.chr_answers.proofs.Fronts.{fronts_join, front_is_answered}
+use Rattle.chr_answers.proofs.Fronts.{last_is_answered}
 
 -- ---- what is left to be read
 

@@ -1,12 +1,13 @@
 -- The program text cut off an input, line by line.
-use Rattle.std.proofs.Common.{◌≡◌, ℕ, ◌-◌, true, false, List, [], ◌∷◌, ◌++◌, length, take, refl, sym, ap, ◌∙◌, arith}
-use Rattle.std.proofs.Common.{append_assoc, append-nil, length-append, subst}
+use Rattle.std.proofs.Common.{◌≡◌, ℕ, ◌+◌, ◌-◌, true, false, List, [], ◌∷◌, ◌++◌, length, take, refl, sym, ap, ◌∙◌}
+use Rattle.std.proofs.Common.{append_assoc, append-nil, arith, length-append, subst}
 use Rattle.std.specs.Prelude.{Option, Some, None, IfSome, IfNone}
 use Rattle.std.specs.Borrow.{Bor}
 use Rattle.std.proofs.Math.Seq.{take-append_seam}
-use Rattle.chr_report.specs.Lines.{lines, is_divider, text_of, commands_of}
+use Rattle.chr_answers.specs.Lines.{lines}
+use Rattle.chr_report.specs.Inputs.{is_divider, text_of, commands_of}
 use Rattle.chr_report.specs.working.LinesLeft.{lines_left}
-use Rattle.chr_report.proofs.LineLaws.{text_more, text_last, text_ended, commands_later, commands_here}
+use Rattle.chr_report.proofs.Texts.{text_more, text_last, text_ended, commands_later, commands_here}
 
 abbrev pub bytes_left : Option (Bor (List ℕ)) → List ℕ
 bytes_left None = []
@@ -79,3 +80,8 @@ cut_none input next c e = (
   c.whole ∙ ap (λ n. c.front ++ bytes_left n) e ∙ sym (c.text ∙ ap (λ n. c.front ++ text_of (lines_left n)) e),
   c.commands ∙ ap (λ n. commands_of (lines_left n)) e,
 )
+
+-- the bytes of a slice, and one more where there is one
+abbrev pub slice_size : Option (Bor (List ℕ)) → ℕ
+slice_size None = 0
+slice_size (Some s) = length s.now + 1

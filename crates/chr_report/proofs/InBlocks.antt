@@ -14,17 +14,18 @@ use Rattle.chr_device.specs.Devices.{ReadsOn}
 use Rattle.chr_ops.specs.Operations.{Operations}
 use Rattle.chr_report.specs.declared.block.Block.{Block}
 use Rattle.chr_report.specs.declared.blocks.Blocks.{Blocks}
-use Rattle.chr_report.specs.Lines.{lines}
-use Rattle.chr_report.specs.Answers.{AnswersAll}
-use Rattle.chr_report.specs.Served.{AreWholeLines}
-use Rattle.chr_report.specs.working.Answered.{AnswersRest}
+use Rattle.chr_answers.specs.Lines.{lines}
+use Rattle.chr_answers.specs.Answers.{AnswersAll}
+use Rattle.chr_answers.specs.Lines.{AreWholeLines}
+use Rattle.chr_answers.specs.Answered.{AnswersRest}
 use Rattle.chr_report.specs.working.BlockLines.{lines_of}
 use Rattle.chr_report.specs.working.Blocks.{AnswersFirst, AreWhole, IsInBlocks, ReadsBlocks}
 use Rattle.chr_report.specs.working.Blocks.{blocks_of, left_of, lines_of_all}
 use Rattle.chr_report.specs.working.Continuing.{AnswersUpTo}
-use Rattle.chr_report.specs.working.Services.{held, served, IsBetweenLines}
-use Rattle.chr_report.specs.working.Serving.{AnswersFront, AnswersInput}
-use Rattle.chr_report.proofs.Pieces.{front_begins, fronts_join}
+use Rattle.chr_answers.specs.Services.{held, served, IsBetweenLines}
+use Rattle.chr_answers.specs.Answered.{AnswersFront}
+use Rattle.chr_report.specs.working.Serving.{AnswersInput}
+use Rattle.chr_answers.proofs.Fronts.{front_begins, fronts_join}
 
 -- ---- bytes
 

@@ -19,15 +19,17 @@ use Rattle.chr_read.specs.ProgramTexts.{IsAnswer}
 use Rattle.chr_report.specs.declared.wanted.Wanted.{Wanted}
 use Rattle.chr_report.specs.declared.running.Status.{Status}
 use Rattle.chr_report.specs.declared.running.Status.TheVariants.{Accepted, Refused}
-use Rattle.chr_report.specs.Lines.{lines, is_divider, text_of, without_return}
+use Rattle.chr_answers.specs.Lines.{lines, without_return}
+use Rattle.chr_report.specs.Inputs.{is_divider, text_of}
 use Rattle.chr_report.specs.Outputs.{IsOutput, IsReadOutput}
-use Rattle.chr_report.specs.Served.{AllAnswered, HasNoFeed, has_divider}
+use Rattle.chr_report.specs.Served.{AllAnswered, has_divider}
+use Rattle.chr_answers.specs.Lines.{HasNoFeed}
 use Rattle.chr_report.specs.Written.{Writes, WritesOutput, WritesBeginning}
 use Rattle.chr_report.specs.working.Divided.{AreText, Divides, IsDivided, IsUndivided}
 use Rattle.chr_report.specs.working.Serving.{AnswersCommands, WritesText, WritesTextPart}
 use Rattle.chr_report.proofs.Conversing.{some_left}
-use Rattle.chr_report.proofs.Feeds.{whole_both}
-use Rattle.chr_report.proofs.LineLaws.{some_line}
+use Rattle.chr_answers.proofs.Feeds.{whole_both}
+use Rattle.chr_answers.proofs.LineLaws.{some_line}
 
 -- where nothing is written, a writer holds what it held
 pub unwritten : (old new : Option (List ℕ)) → new ≡ old → Appends old new []

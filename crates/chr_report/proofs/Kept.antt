@@ -6,7 +6,8 @@ use Rattle.std.specs.Bool.{OnTrue, OnFalse}
 use Rattle.std.specs.Io.KnownBytes.{Consumes, IsAtEnd}
 use Rattle.chr_device.specs.Devices.{ReadsOn}
 use Rattle.chr_read.specs.declared.reader.TheConstants.{MAX_TEXT}
-use Rattle.chr_report.specs.Lines.{lines, text_of}
+use Rattle.chr_answers.specs.Lines.{lines}
+use Rattle.chr_report.specs.Inputs.{text_of}
 use Rattle.chr_report.specs.Outputs.{Decides, IsOutput}
 use Rattle.chr_report.specs.working.Divided.{IsUndivided}
 use Rattle.chr_report.proofs.Inputs.{read_more, text_too_long, too_long_output}

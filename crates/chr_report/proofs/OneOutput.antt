@@ -26,8 +26,9 @@ use Rattle.chr_read.specs.declared.fault.ReadFault.TheVariants as fault
 use Rattle.chr_report.specs.declared.running.Status.{Status}
 use Rattle.chr_report.specs.declared.running.Status.TheVariants.{Accepted, Refused}
 use Rattle.chr_report.specs.declared.wanted.Wanted.{Wanted}
-use Rattle.chr_report.specs.Lines.{lines, text_of, commands_of}
-use Rattle.chr_report.specs.OneText.{FirstAnswersAreOne}
+use Rattle.chr_answers.specs.Lines.{lines}
+use Rattle.chr_report.specs.Inputs.{text_of, commands_of}
+use Rattle.chr_answers.specs.OneText.{FirstAnswersAreOne}
 use Rattle.chr_report.specs.OneOutput.{OutputsAreOne}
 use Rattle.chr_weights.specs.Weights.{IsFirstNotLowered}
 use Rattle.chr_report.specs.Outputs.{not_lowered_text, accepted_text, IsRefusedByWeights, IsCauseLine}

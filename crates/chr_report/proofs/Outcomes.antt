@@ -20,9 +20,10 @@ use Rattle.chr_report.specs.declared.running.Status.TheVariants.{Refused}
 use Rattle.chr_report.specs.declared.running.Status.{Status}
 use Rattle.chr_device.specs.declared.words.Verb.{Verb}
 use Rattle.chr_join.specs.AcceptedPrograms.{program_in}
-use Rattle.chr_report.specs.Lines.{lines, text_of, commands_of}
-use Rattle.chr_report.specs.Answers.{AnswersAll}
-use Rattle.chr_report.specs.working.Answered.{AnswersRest}
+use Rattle.chr_answers.specs.Lines.{lines}
+use Rattle.chr_report.specs.Inputs.{text_of, commands_of}
+use Rattle.chr_answers.specs.Answers.{AnswersAll}
+use Rattle.chr_answers.specs.Answered.{AnswersRest}
 use Rattle.chr_report.specs.working.LinesLeft.{lines_left}
 use Rattle.chr_report.specs.Outputs.{asked, Decides, IsOutput, IsReadOutput, IsAnswered, IsRefusedByWeights}
 use Rattle.chr_report.specs.Outputs.{IsRefusedByOverlaps, accepted_text}

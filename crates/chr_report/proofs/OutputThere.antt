@@ -21,9 +21,10 @@ use Rattle.chr_read.proofs.ProgramsThere.{program_there}
 use Rattle.chr_report.specs.declared.running.Status.{Status}
 use Rattle.chr_report.specs.declared.running.Status.TheVariants.{Accepted, Refused}
 use Rattle.chr_report.specs.Asked.{replicas_by}
-use Rattle.chr_report.specs.Lines.{lines, text_of, commands_of}
+use Rattle.chr_answers.specs.Lines.{lines}
+use Rattle.chr_report.specs.Inputs.{text_of, commands_of}
 use Rattle.chr_report.specs.OneOutput.{OutputsExist}
-use Rattle.chr_report.specs.OneText.{AnswersExist}
+use Rattle.chr_answers.specs.OneText.{AnswersExist}
 use Rattle.chr_report.specs.Outputs.{IsReadOutput, IsRulesOutput, accepted_text, asked, not_lowered_text}
 use Rattle.chr_report.specs.Overlaps.{failure_text, too_many_text}
 

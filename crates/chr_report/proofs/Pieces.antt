@@ -1,21 +1,20 @@
 -- Answers of an input that comes piece by piece.
-use Rattle.std.proofs.Common.{◌≡◌, ℕ, Bool, true, false, List, [], ◌∷◌, ◌++◌, refl, sym, ap, ◌∙◌, append_assoc}
+use Rattle.std.proofs.Common.{◌≡◌, ℕ, List, [], ◌∷◌, ◌++◌, refl, sym, ap, ◌∙◌, append_assoc}
 use Rattle.std.proofs.Common.{append-nil, subst, inl}
 use Rattle.std.specs.Prelude.{Option, Some, Result, Ok, Err, OnErr}
-use Rattle.std.specs.Bool.{MatchBool}
 use Rattle.std.specs.Io.KnownBytes.{Appends}
 use Rattle.std.proofs.KnownBytes.{Appends-nil, Appends-trans}
 use Rattle.chr_base.specs.declared.rule.Rule.{Rule}
 use Rattle.chr_base.specs.ProgramTests.{Declaration}
 use Rattle.chr_device.specs.Devices.{AppendsPart}
 use Rattle.chr_ops.specs.Operations.{Operations}
-use Rattle.chr_json.specs.Lines.{is_blank_line}
-use Rattle.chr_report.specs.Lines.{lines, without_return}
-use Rattle.chr_report.specs.Answers.{AnswersAll, AnswersFirst}
-use Rattle.chr_report.specs.Served.{AreWholeLines, HasNoFeed}
-use Rattle.chr_report.specs.working.Answered.{AnswersLine, AddsAnswer}
-use Rattle.chr_report.specs.working.Serving.{AnswersFront, AnswersChunk, AnswersPart, SendsAnswer, SendsSome}
-use Rattle.chr_report.proofs.Feeds.{ended_more, lines_more, lines_last, none_in_both, whole_ended}
+use Rattle.chr_answers.specs.Lines.{without_return}
+use Rattle.chr_answers.specs.Lines.{AreWholeLines, HasNoFeed}
+use Rattle.chr_answers.specs.Answered.{AnswersLine}
+use Rattle.chr_answers.specs.Answered.{AnswersFront}
+use Rattle.chr_report.specs.working.Serving.{AnswersChunk, AnswersPart, SendsAnswer, SendsSome}
+use Rattle.chr_answers.proofs.Fronts.{adds, front_begins, front_goes_on}
+use Rattle.chr_answers.proofs.Feeds.{ended_more, none_in_both, whole_ended}
 
 -- ---- parts of what is written
 
@@ -40,77 +39,6 @@ if_err (Ok x) f p = tt
 if_err (Err e) f p = f p
 
 module _ (ds : List Declaration) (rules : List Rule) where
-  -- ---- whole lines
-
-  pub front_begins : (old : List Operations) → AnswersFront ds rules [] old [] old
-  front_begins old more tail a = a
-
-  line_first : (line more text tail : List ℕ) (old new : List Operations)
-      → AnswersLine ds rules old (without_return line) [] new text
-      → AnswersAll ds rules (lines more) new tail → AnswersAll ds rules (line ∷ lines more) old (text ++ tail)
-  line_first line more text tail old new g a = by (is_blank_line (without_return line)) refl g
-    where
-      by : (b : Bool) → is_blank_line (without_return line) ≡ b → MatchBool b ((new ≡ old) × (text ≡ []))
-          (AddsAnswer ds rules old (without_return line) [] new text) → AnswersAll ds rules (line ∷ lines more) old
-          (text ++ tail)
-      by true e k = rw e (subst (λ o. AnswersAll ds rules (lines more) o (text ++ tail)) k.0
-          (subst (λ t. AnswersAll ds rules (lines more) new (t ++ tail)) (sym k.1) a))
-      by false e k =
-          let first : AnswersFirst ds rules old (without_return line) (text ++ tail)
-          (AnswersAll ds rules (lines more)) =
-          record {
-            text = k.text;
-            new = new;
-            rest = tail;
-            answers = k.answers;
-            more = a;
-            out_is =
-                ap (λ t. t ++ tail) k.out_is ∙ append_assoc k.text (10 ∷ []) tail;
-          } in
-          rw e first
-
-  -- the whole lines that are answered go on with one line more
-  pub front_goes_on : (front line out text : List ℕ) (old mid new : List Operations) → HasNoFeed line
-      → AnswersFront ds rules front old out mid → AnswersLine ds rules mid (without_return line) []
-      new text → AnswersFront ds rules (front ++ (line ++ 10 ∷ [])) old (out ++ text) new
-  front_goes_on front line out text old mid new h f g more tail a =
-      subst (λ i. AnswersAll ds rules (lines i) old ((out ++ text) ++ tail)) (sym (ended_more front line more))
-      (subst (λ o. AnswersAll ds rules (lines (front ++ (line ++ 10 ∷ more))) old o) (sym (append_assoc out text tail))
-      (f (line ++ 10 ∷ more) (text ++ tail) (subst (λ ls. AnswersAll ds rules ls mid (text ++ tail))
-      (sym (lines_more line more h)) (line_first line more text tail mid new g a))))
-
-  -- whole lines that are answered, and then others, are answered together
-  pub fronts_join : (one two out text : List ℕ) (old mid new : List Operations)
-      → AnswersFront ds rules one old out mid → AnswersFront ds rules two mid text new
-      → AnswersFront ds rules (one ++ two) old (out ++ text) new
-  fronts_join one two out text old mid new f g more tail a =
-      subst (λ i. AnswersAll ds rules (lines i) old ((out ++ text) ++ tail)) (sym (append_assoc one two more))
-      (subst (λ o. AnswersAll ds rules (lines (one ++ (two ++ more))) old o) (sym (append_assoc out text tail))
-      (f (two ++ more) (text ++ tail) (g more tail a)))
-
-  -- whole lines, where nothing comes after them, are all answered
-  pub front_is_answered : (front out : List ℕ) (old now : List Operations) → AnswersFront ds rules front old out now
-      → AnswersAll ds rules (lines front) old out
-  front_is_answered front out old now f =
-      subst (λ i. AnswersAll ds rules (lines i) old out) (append-nil front)
-      (subst (λ o. AnswersAll ds rules (lines (front ++ [])) old o) (append-nil out) (f [] [] refl))
-
-  -- a last line without its line feed is answered after the whole lines
-  pub last_is_answered : (front line out text : List ℕ) (old mid new : List Operations) → HasNoFeed line
-      → AnswersFront ds rules front old out mid → AnswersLine ds rules mid (without_return line) []
-      new text → AnswersAll ds rules (lines (front ++ line)) old (out ++ text)
-  last_is_answered front line out text old mid new h f g =
-      f line text (subst (λ ls. AnswersAll ds rules ls mid text) (sym (lines_last line h))
-      (last (is_blank_line (without_return line)) refl g))
-    where
-      last : (b : Bool) → is_blank_line (without_return line) ≡ b → MatchBool b ((new ≡ mid) × (text ≡ []))
-          (AddsAnswer ds rules mid (without_return line) [] new text) → AnswersAll ds rules (line ∷ []) mid text
-      last true e k = rw e k.1
-      last false e k =
-          let first : AnswersFirst ds rules mid (without_return line) text (AnswersAll ds rules []) =
-          record { text = k.text; new = new; rest = []; answers = k.answers; more = refl; out_is = k.out_is } in
-          rw e first
-
   -- ---- a chunk
 
   -- within a chunk: whole lines are answered, a line begins in what is kept, and goes on in the rest
@@ -132,7 +60,7 @@ module _ (ds : List Declaration) (rules : List Rule) where
     whole = inl refl;
     unended = h;
     answers =
-        front_begins start;
+        front_begins ds rules start;
     written = Appends-nil old;
   }
 
@@ -154,7 +82,7 @@ module _ (ds : List Declaration) (rules : List Rule) where
         are = cut_bytes bytes s.front line end more rest s.are is;
         whole = whole_ended s.front (line ++ end);
         unended = tt;
-        answers = front_goes_on s.front (line ++ end) s.out w.text start mid now g s.answers w.answer;
+        answers = front_goes_on ds rules s.front (line ++ end) s.out w.text start mid now g s.answers w.answer;
         written = Appends-trans old middle new _ _ s.written w.is_written;
       }
 
@@ -186,23 +114,6 @@ module _ (ds : List Declaration) (rules : List Rule) where
 
   -- ---- answers that are held until they are sent together
 
-  -- what an answer adds to a text
-  pub adds : (line before after : List ℕ) (old new : List Operations) → AnswersLine ds rules old line before new after
-      → (text : List ℕ) × AnswersLine ds rules old line [] new text × (after ≡ before ++ text)
-  adds line before after old new g = by (is_blank_line line) refl g
-    where
-      by : (b : Bool) → is_blank_line line ≡ b → MatchBool b ((new ≡ old) × (after ≡ before))
-          (AddsAnswer ds rules old line before new after) → (text : List ℕ) × AnswersLine ds rules old line []
-          new text × (after ≡ before ++ text)
-      by true e k =
-          let none : AnswersLine ds rules old line [] new [] = rw e (k.0, refl) in
-          ([], none, k.1 ∙ sym (append-nil before))
-      by false e k =
-          let one : AddsAnswer ds rules old line [] new (k.text ++ 10 ∷ []) =
-          record { text = k.text; answers = k.answers; out_is = refl } in
-          let some : AnswersLine ds rules old line [] new (k.text ++ 10 ∷ []) = rw e one in
-          (k.text ++ 10 ∷ [], some, k.out_is ∙ append_assoc before k.text (10 ∷ []))
-
   -- some of the answers so far were sent, and the others are held
   pub record Gathers (bytes line rest : List ℕ) (start now : List Operations) (old new : Option (List ℕ))
       (holds : List ℕ) : Type 0 where
@@ -225,7 +136,7 @@ module _ (ds : List Declaration) (rules : List Rule) where
       → AnswersLine ds rules mid (without_return (line ++ end)) holds now after → Gathers bytes []
       more start now old new after
   gathers_one bytes line rest end more holds after start mid now old new s is h g =
-      let a = adds (without_return (line ++ end)) holds after mid now g in
+      let a = adds ds rules (without_return (line ++ end)) holds after mid now g in
       let w : SendsAnswer ds rules (line ++ end) mid now (Appends (Some (s.sent ++ holds)) (Some (s.sent ++ after))) =
       record {
         text = a.0;

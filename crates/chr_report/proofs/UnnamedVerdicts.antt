@@ -22,8 +22,8 @@ use Rattle.chr_overlaps.specs.declared.overlap.Overlap.{Overlap}
 use Rattle.chr_overlaps.specs.declared.cases.Case.{Case}
 use Rattle.chr_overlaps.specs.OverlapLists.{AreOverlaps}
 use Rattle.chr_overlaps.specs.CaseLists.{AreListed, AreCases, IsTooMany}
-use Rattle.chr_sorts.specs.Sorts.{Sorts, FitRule, Fit}
-use Rattle.chr_sorts.specs.SortedCases.{all_equations}
+use Rattle.chr_confluence.specs.Sorts.{Sorts, FitRule, Fit}
+use Rattle.chr_confluence.specs.SortedCases.{all_equations}
 use Rattle.chr_sorting.specs.FinestSorts.{AreShort, AreFinest}
 use Rattle.chr_sorting.specs.SortedCaseLists.{AreSortedListed, AreSortedCases, HasTooManyCombinations}
 use Rattle.chr_join.specs.declared.coverage.Coverage.{Coverage}
@@ -43,11 +43,11 @@ use Rattle.chr_json.specs.declared.fault.LineFault.{LineFault}
 use Rattle.chr_json.specs.declared.fault.LineFault.TheVariants as fault
 use Rattle.chr_report.specs.declared.running.Status.{Status}
 use Rattle.chr_report.specs.declared.running.Status.TheVariants.{Accepted, Refused}
-use Rattle.chr_report.specs.declared.reply.Refusal.TheVariants as refusal
+use Rattle.chr_answers.specs.declared.reply.Refusal.TheVariants as refusal
 use Rattle.chr_report.specs.declared.wanted.Wanted.{Wanted}
-use Rattle.chr_report.specs.Lines.{without_return}
-use Rattle.chr_report.specs.Answers.{held_by, OneAnswers, AnswersAt, ShowsNormalForm, AnswersShow, AnswersRead}
-use Rattle.chr_report.specs.Answers.{AnswersFirst, AnswersAll, AnswersRefusal}
+use Rattle.chr_answers.specs.Lines.{without_return}
+use Rattle.chr_answers.specs.Answers.{held_by, OneAnswers, AnswersAt, ShowsNormalForm, AnswersShow, AnswersRead}
+use Rattle.chr_answers.specs.Answers.{AnswersFirst, AnswersAll, AnswersRefusal}
 use Rattle.chr_report.specs.Outputs.{accepted_text, IsAnswered, IsRulesOutput}
 use Rattle.chr_join.proofs.UnnamedRules.{unnamed, at_unnamed, from_unnamed, by_unnamed, rest_unnamed, normal_unnamed}
 use Rattle.chr_join.proofs.UnnamedRules.{overlap_unnamed, overlap_named, constants_unnamed}

@@ -1,15 +1,9 @@
--- Laws of inputs and of their outputs.
+-- A law of inputs and of their outputs.
 use Rattle.std.specs.Prelude.{◌≡◌, ℕ, List, ◌++◌}
-use Rattle.std.specs.List.{join_with_byte}
 use Rattle.chr_device.specs.declared.words.Verb.TheVariants.{Check, Run}
 use Rattle.chr_report.specs.declared.running.Status.{Status}
 use Rattle.chr_report.specs.declared.wanted.Wanted.{Wanted}
-use Rattle.chr_report.specs.Lines.{lines}
 use Rattle.chr_report.specs.Outputs.{IsOutput}
-
--- the lines, joined by line feeds, are the input
-abbrev pub LinesAreTheInput : Type 0
-LinesAreTheInput = (input : List ℕ) → join_with_byte 10 (lines input) ≡ input
 
 -- what a run writes is what a check of the same input writes, and then the answers; both have one status
 abbrev pub ChecksBeginRuns : Type 0

@@ -1,13 +1,10 @@
-pub mod Lines
+pub mod Inputs
 pub mod Asked
-pub mod Replies
-pub mod Answers
 pub mod Overlaps
 pub mod Outputs
 pub mod Written
 pub mod Served
 pub mod Wires
 pub mod Laws
-pub mod OneText
 pub mod OneOutput
 pub mod working

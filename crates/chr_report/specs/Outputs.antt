@@ -25,8 +25,9 @@ use Rattle.chr_device.specs.declared.words.Verb.TheVariants.{Check, Explain, Run
 use Rattle.chr_report.specs.declared.running.Status.{Status}
 use Rattle.chr_report.specs.declared.running.Status.TheVariants.{Accepted, Refused}
 use Rattle.chr_report.specs.declared.wanted.Wanted.{Wanted}
-use Rattle.chr_report.specs.Lines.{lines, text_of, commands_of}
-use Rattle.chr_report.specs.Answers.{AnswersAll}
+use Rattle.chr_answers.specs.Lines.{lines}
+use Rattle.chr_report.specs.Inputs.{text_of, commands_of}
+use Rattle.chr_answers.specs.Answers.{AnswersAll}
 use Rattle.chr_report.specs.Overlaps.{failure_text, too_many_text}
 
 -- the line of a text that is no program; want of memory has none

@@ -1,21 +1,14 @@
 -- What is written of an input that is read piece by piece.
-use Rattle.std.specs.Prelude.{◌≡◌, ℕ, ◌⊎◌, Bool, false, List, [], ◌∷◌, ◌++◌, ◌==◌, Option, Some}
+use Rattle.std.specs.Prelude.{ℕ, Bool, List, [], ◌++◌, Option, Some}
 use Rattle.std.specs.Bool.{MatchBool}
-use Rattle.std.specs.List.{AllByRecursion, list_any}
+use Rattle.std.specs.List.{list_any}
 use Rattle.std.specs.Io.KnownBytes.{Appends, Consumes}
+use Rattle.chr_answers.specs.Lines.{AreWholeLines, HasNoFeed, lines}
 use Rattle.chr_device.specs.declared.words.Verb.TheVariants.{Run}
 use Rattle.chr_report.specs.declared.running.Status.{Status}
 use Rattle.chr_report.specs.declared.wanted.Wanted.{Wanted}
-use Rattle.chr_report.specs.Lines.{lines, is_divider}
+use Rattle.chr_report.specs.Inputs.{is_divider}
 use Rattle.chr_report.specs.Written.{WritesOutput}
-
--- no line ends within the bytes
-abbrev pub HasNoFeed : List ℕ → Type 0
-HasNoFeed bytes = AllByRecursion (λ b. (b == 10) ≡ false) bytes
-
--- nothing, or bytes of which the last is a line feed
-abbrev pub AreWholeLines : List ℕ → Type 0
-AreWholeLines front = (front ≡ []) ⊎ ((bytes : List ℕ) × (front ≡ bytes ++ 10 ∷ []))
 
 -- whether the program text ends within the bytes
 abbrev pub has_divider : List ℕ → Bool

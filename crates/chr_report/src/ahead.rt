@@ -1,19 +1,14 @@
 //! Command lines that several threads read before their turn.
-ghost use Rattle.std.specs.Prelude.{◌≡◌, ◌<◌, ◌≤◌, List, ℕ, All, IfOk, IfSome};
-ghost use Rattle.chr_base.specs.declared.program.Program.{Program as ProgramValue};
+ghost use Rattle.std.specs.Prelude.{◌≤◌, All, IfOk};
 ghost use Rattle.chr_join.specs.AcceptedPrograms.{program_in};
-ghost use Rattle.chr_report.specs.working.Gathered.{AreTells};
-ghost use Rattle.chr_report.specs.working.Requests.{AsksFirst, IsHeard};
-ghost use Rattle.chr_report.specs.working.Ahead.{IsAhead};
+ghost use Rattle.chr_answers.specs.Ahead.{IsAhead};
+ghost use Rattle.chr_answers.specs.Requests.{IsHeard};
 
-use crate::gathering::{Carried, Tells, gather};
-use crate::input::{first_of_last, last_bytes, without_return};
-use crate::request::{Request, request_of};
+use crate::gathering::gather;
+use chr_answers::{Ahead, Carried, Heard, Request, read_one};
 use chr_base::program::Program;
 use chr_join::Accepted;
-use chr_json::is_blank;
 use std::alloc::{AllocError, Global};
-use std::vec::IntoIter;
 
 /// The most lines of a text that are read ahead, so that what short lines ask for takes no more memory than this many
 /// requests.
@@ -21,36 +16,6 @@ pub(crate) const MOST_LINES: usize = 65_536;
 
 /// The memory of what lines ask for, as a multiple of their bytes.
 const ROOM: usize = 3;
-
-/// One of a text's lines, and what it asks for.
-#[derive(Drop)]
-pub(crate) struct Heard {
-    /// How many bytes of the text are left at the line's start.
-    pub(crate) left: usize,
-    /// How many bytes of the text are left after the line's end.
-    pub(crate) more: usize,
-    /// What the line asks for, if that is known and the line is not blank.
-    pub(crate) request: Option<Request>,
-}
-
-/// What the first line of a text's last `left` bytes asks for. Nothing is answered where no line ends in them.
-pub(crate) fn read_one(alloc: Global, program: &Program, text: &[u8], left: usize) -> Option<Heard>
-    ensures heard { IfSome result (IsHeard program.now text.now) }
-    ensures left { IfSome result (λ heard. heard.left ≡ left) }
-    ensures shorter { IfSome result (λ heard. heard.more < left) }
-{
-    let (line, more) = first_of_last(text, left)?;
-    let line = without_return(line);
-    let mut request = None;
-    if !is_blank(line) {
-        request = request_of(alloc, program, line).ok();
-    }
-    Some(Heard {
-        left,
-        more,
-        request,
-    })
-}
 
 /// The replica that the first line of a text tells an operation, if that is what it asks for.
 pub(crate) fn first_replica(alloc: Global, program: &Program, text: &[u8]) -> Option<u64> {
@@ -88,76 +53,24 @@ fn read_lines(
     Ok(found)
 }
 
-/// Lines of a text that were read before their turn, in order: tells at its beginning that were rested, and what each
-/// line after them asks for.
-#[derive(Drop)]
-pub(crate) struct Ahead {
-    pub(crate) tells: Option<Tells>,
-    pub(crate) heard: IntoIter<Heard>,
-}
-
-impl Ahead {
-    /// No line was read before its turn.
-    pub(crate) fn none(alloc: Global) -> Self
-        ensures { (p : ProgramValue) (text : List ℕ) → IsAhead p text result }
-    {
-        Ahead {
-            tells: None,
-            heard: Vec::new(alloc).into_iter(),
-        }
-    }
-
-    /// Reads the lines of a text. If the block is to be rested, `carried` is what its first tells are rested with.
-    pub(crate) fn read(
-        alloc: Global,
-        accepted: &Accepted,
-        text: &[u8],
-        carried: Option<Carried>,
-    ) -> Result<Self, AllocError>
-        ensures { IfOk result (IsAhead (program_in accepted.now) text.now) }
-    {
-        make_room(alloc, text.len());
-        let tells = match carried {
-            Some(carried) => gather(alloc, accepted, text, carried)?,
-            None => None,
-        };
-        let left = match &tells {
-            Some(tells) => tells.more,
-            None => text.len(),
-        };
-        let heard = read_lines(alloc, accepted.program(), text, left)?.into_iter();
-        Ok(Ahead { tells, heard })
-    }
-
-    /// The tells that were rested, if they are what comes next where `left` bytes are left.
-    pub(crate) fn tells(&mut self, left: usize) -> Option<Tells>
-        ensures ahead { (p : ProgramValue) (text : List ℕ) → IsAhead p text self.old → IsAhead p text self.new }
-        ensures tells { (p : ProgramValue) (text : List ℕ) → IsAhead p text self.old
-            → IfSome result (AreTells p text) }
-        ensures left { IfSome result (λ tells. tells.left ≡ left) }
-    {
-        if !matches!(&self.tells, Some(tells) if tells.left == left) {
-            return None;
-        }
-        self.tells.take()
-    }
-
-    /// What the line that begins where `left` bytes are left asks for, and how many bytes are left after its end, if
-    /// that was read before its turn.
-    pub(crate) fn request(&mut self, left: usize) -> Option<(Request, usize)>
-        ensures ahead { (p : ProgramValue) (text : List ℕ) → IsAhead p text self.old → IsAhead p text self.new }
-        ensures first { (p : ProgramValue) (text : List ℕ) → IsAhead p text self.old
-            → IfSome result (λ r. AsksFirst p text left r.1 r.0) }
-    {
-        let heard = self.heard.next()?;
-        let Heard {
-            left: start,
-            more,
-            request,
-        } = heard;
-        match request {
-            Some(request) if start == left => Some((request, more)),
-            _ => None,
-        }
-    }
+/// Reads the lines of a text. If the block is to be rested, `carried` is what its first tells are rested with.
+pub(crate) fn read_ahead(
+    alloc: Global,
+    accepted: &Accepted,
+    text: &[u8],
+    carried: Option<Carried>,
+) -> Result<Ahead, AllocError>
+    ensures { IfOk result (IsAhead (program_in accepted.now) text.now) }
+{
+    make_room(alloc, text.len());
+    let tells = match carried {
+        Some(carried) => gather(alloc, accepted, text, carried)?,
+        None => None,
+    };
+    let left = match &tells {
+        Some(tells) => tells.more,
+        None => text.len(),
+    };
+    let heard = read_lines(alloc, accepted.program(), text, left)?;
+    Ok(Ahead::of(tells, heard))
 }

@@ -1,8 +1,8 @@
 //! Bytes of command lines.
 ghost use Rattle.std.specs.Prelude.{◌≡◌, ◌≤◌, drop, length, take};
-ghost use Rattle.chr_report.specs.Served.{AreWholeLines};
+ghost use Rattle.chr_answers.specs.Lines.{AreWholeLines};
 
-use crate::input::whole_len;
+use chr_answers::whole_len;
 
 /// Bytes of an input: whole lines, and the beginning of one.
 #[derive(Drop)]

@@ -5,24 +5,22 @@ ghost use Rattle.std.specs.Prelude.{string_bytes, vec_len};
 ghost use Rattle.std.specs.Arc.{arc_value};
 ghost use Rattle.std.specs.Bool.{OnTrue, OnFalse};
 ghost use Rattle.std.specs.Io.KnownBytes.{Appends, IsAtEnd};
-ghost use Rattle.std.specs.Thread.{IsSync};
 ghost use Rattle.chr_base.specs.Programs.{declarations, rules_of};
 ghost use Rattle.chr_device.specs.Devices.{ReadsOn, inner_of, has_failed};
 ghost use Rattle.chr_device.specs.declared.fault.RunFault.TheVariants.{Device, Memory};
 ghost use Rattle.chr_join.specs.AcceptedPrograms.{program_in};
-ghost use Rattle.chr_report.specs.Lines.{lines};
-ghost use Rattle.chr_report.specs.working.Answered.{AnswersRest};
+ghost use Rattle.chr_answers.specs.Lines.{lines};
+ghost use Rattle.chr_answers.specs.Answered.{AnswersRest};
 ghost use Rattle.chr_report.specs.working.Blocks.{AnswersFirst, AreWhole, ReadsBlocks, blocks_of, left_of};
 ghost use Rattle.chr_report.specs.working.Readings.{Agree};
-ghost use Rattle.chr_report.specs.working.Services.{held, served, IsBetweenLines};
+ghost use Rattle.chr_answers.specs.Services.{held, served, IsBetweenLines};
 ghost use Rattle.chr_report.specs.working.Serving.{AnswersInput};
 
-use crate::ahead::Ahead;
-use crate::answering::{Answering, answer_all, answer_lines};
+use crate::between::rest_told;
 use crate::block::Block;
 use crate::carriage::Carriage;
-use crate::readers::{Asking, Done, Task, do_task};
-use crate::service::Service;
+use crate::readers::{Asking, Done, Readers, Task, do_task};
+use chr_answers::{Ahead, Answering, Service, answer_all, answer_lines};
 use chr_crew::{Known, beside_crew};
 use chr_device::{RunFault, Watched, read_on};
 use chr_join::Accepted;
@@ -107,23 +105,6 @@ fn push_last(blocks: &mut VecDeque<Arc<Block>>, block: Arc<Block>) -> Result<(),
     Ok(())
 }
 
-/// Rests what was told, where enough atoms wait for workers to rest them. Threads that read lines go on meanwhile.
-fn rest_told<R: Threads + Wait + Sync>(
-    rt: &R,
-    alloc: Global,
-    service: &mut Service,
-) -> Result<(), AllocError>
-    requires { IsBetweenLines service.old }
-    ensures ready { OnOk result (IsBetweenLines service.new) }
-    ensures program { service.new.world.accepted ≡ service.old.world.accepted }
-    ensures operations { OnOk result (held service.new ≡ held service.old) }
-{
-    if !service.is_to_rest() {
-        return Ok(());
-    }
-    service.rest_between(rt, alloc)
-}
-
 /// Blocks of lines that wait to be answered, in order.
 #[derive(Drop)]
 pub(crate) struct Blocks {
@@ -175,11 +156,11 @@ impl Blocks {
     /// The most blocks that wait. They are fewer where the threads that read blocks don't rest what these tell: then
     /// other blocks wait for the thread that answers.
     fn most(&self) -> usize {
-        let workers = self.at.service.sharing.workers as usize;
+        let workers = self.at.service.schedule().workers() as usize;
         if workers == 1 {
             return 1;
         }
-        let ahead = if self.at.service.rests_ahead {
+        let ahead = if self.at.service.schedule().rests_ahead() {
             RESTED_AHEAD
         } else {
             BLOCKS_AHEAD
@@ -187,9 +168,18 @@ impl Blocks {
         ahead.saturating_mul(workers).min(MOST_AHEAD)
     }
 
+    /// What other threads do with lines before their turn.
+    fn readers(&self) -> Readers {
+        let schedule = self.at.service.schedule();
+        Readers {
+            read: schedule.workers() > 1,
+            rest: schedule.rests_ahead(),
+        }
+    }
+
     /// Whether the blocks that wait have enough bytes: then some are to be answered before more are read.
     fn is_full(&self) -> bool {
-        let workers = self.at.service.sharing.workers as usize;
+        let workers = self.at.service.schedule().workers() as usize;
         let mut waiting = 0usize;
         for block in &self.blocks {
             waiting = waiting.saturating_add(block.bytes.len());
@@ -199,7 +189,7 @@ impl Blocks {
 
     /// How many bytes the next block is to have.
     fn next_size(&self) -> usize {
-        let most = if self.at.service.rests_ahead {
+        let most = if self.at.service.schedule().rests_ahead() {
             MOST_BLOCK
         } else {
             MOST_UNRESTED_BLOCK
@@ -228,7 +218,7 @@ impl Blocks {
         self.begun.clear();
         self.begun.extend_from_slice(block.begun())?;
         let block = shared(alloc, block)?;
-        asking.ask(rt, alloc, &block, self.at.service.readers())?;
+        asking.ask(rt, alloc, &block, self.readers())?;
         push_last(&mut self.blocks, block)?;
         self.size = self.next_size();
         Ok(())
@@ -299,9 +289,10 @@ impl Blocks {
         } = left;
         let mut at = answer_lines(rt, alloc, block.lines(), at, ahead)?;
         rest_told(rt, alloc, &mut at.service)?;
+        let schedule = at.service.schedule();
         asking
             .carriage
-            .note(at.service.rests_ahead, at.service.stretch);
+            .note(schedule.rests_ahead(), schedule.stretch());
         let room = room_of(alloc, block);
         Ok(Blocks {
             at,
@@ -422,7 +413,7 @@ fn answer_beside<R: Threads + Wait + Sync, D: Read, K: Known<Done> + Send>(
     ensures device { IsErrOf result Device → has_failed reader.new ≡ true }
     ensures memory { IsErrOf result Memory → has_failed reader.new ≡ has_failed reader.old }
 {
-    let workers = service.sharing.workers as usize;
+    let workers = service.schedule().workers() as usize;
     let carriage = Carriage::open(alloc, MOST_AHEAD)?;
     let (tasks, left) = bounded(alloc, MOST_AHEAD)?;
     if workers == 1 || ended {

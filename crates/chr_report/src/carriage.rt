@@ -1,7 +1,7 @@
 //! Atoms that are carried from block to block by the threads that read them.
 ghost use Rattle.std.specs.Prelude.{◌<◌};
 
-use crate::gathering::{Carried, Tells};
+use chr_answers::{Carried, Tells};
 use chr_base::bag::Bag;
 use crossbeam_channel::{Receiver, Sender, bounded};
 use std::alloc::{AllocError, Global};

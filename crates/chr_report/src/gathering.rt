@@ -3,13 +3,13 @@ ghost use Rattle.std.specs.Prelude.{◌≡◌, ◌<◌, ◌⊎◌, [], List, ℕ
 ghost use Rattle.std.specs.Bool.{OnTrue};
 ghost use Rattle.chr_join.specs.AcceptedPrograms.{program_in};
 ghost use Rattle.chr_base.specs.declared.program.Program.{Program as ProgramValue};
-ghost use Rattle.chr_report.specs.declared.request.Request.TheVariants.{Tell};
-ghost use Rattle.chr_report.specs.working.Requests.{AsksFirst};
-ghost use Rattle.chr_report.specs.working.Gathered.{AreTells, IsGathered};
+ghost use Rattle.chr_answers.specs.declared.request.Request.TheVariants.{Tell};
+ghost use Rattle.chr_answers.specs.Requests.{AsksFirst};
+ghost use Rattle.chr_answers.specs.Gathered.{AreTells};
+ghost use Rattle.chr_report.specs.working.Gathered.{IsGathered};
 
-use crate::ahead::{Heard, MOST_LINES, read_one};
-use crate::request::Request;
-use crate::service::MOST_WAITING;
+use crate::ahead::MOST_LINES;
+use chr_answers::{Carried, Heard, MOST_WAITING, Request, Tells, read_one};
 use chr_base::bag::Bag;
 use chr_join::Accepted;
 use chr_ops::Op;
@@ -27,35 +27,6 @@ const MOST_CARRIED: u64 = 4096;
 
 /// Of the atoms that a block tells one of this many may be carried.
 const CARRYING: u64 = 4;
-
-/// Atoms that are carried from blocks that were read before.
-#[derive(Drop)]
-pub(crate) struct Carried {
-    /// The atoms.
-    pub(crate) part: Bag,
-    /// The number of the stretch of blocks in which they may be carried on. A new stretch begins where parts that are
-    /// leased out come back.
-    pub(crate) stretch: u64,
-}
-
-/// Lines of a text that tell one replica operations, and what comes of their atoms.
-#[derive(Drop)]
-pub(crate) struct Tells {
-    /// How many bytes of the text are left where the lines begin.
-    pub(crate) left: usize,
-    /// How many bytes of the text are left where they end.
-    pub(crate) more: usize,
-    /// The number of the replica.
-    pub(crate) replica: u64,
-    /// The operations, in the order of the lines.
-    pub(crate) ops: Vec<Op>,
-    /// The atoms that were carried to them.
-    pub(crate) carried: Carried,
-    /// What the operations' atoms and those that were carried come to, at rest.
-    pub(crate) rested: Bag,
-    /// Whether what was rested is carried on.
-    pub(crate) goes_on: bool,
-}
 
 /// Lines that tell one replica operations, while they are read.
 #[derive(Drop)]
@@ -81,13 +52,6 @@ struct Gathering {
 /// Whether the `staying` atoms that are left of `told` atoms are few enough to be carried on.
 fn may_go_on(told: u64, staying: u64) -> bool {
     staying <= MOST_CARRIED && staying <= told / CARRYING
-}
-
-impl Tells {
-    /// How many more atoms were left than were carried here.
-    pub(crate) fn staying(&self) -> u64 {
-        (self.rested.len() as u64).saturating_sub(self.carried.part.len() as u64)
-    }
 }
 
 impl Gathering {

@@ -1,44 +1,18 @@
 //! The program text and the command lines of an input.
-ghost use Rattle.std.specs.Prelude.{◌≡◌, ◌<◌, ◌≤◌, ◌∷◌, ◌++◌, ◌==◌, IfSome, IfNone, length, take, drop};
-ghost use Rattle.std.specs.List.{position_or_len};
-ghost use Rattle.chr_report.specs.Lines.{lines, without_return, is_divider, text_of, commands_of};
+ghost use Rattle.std.specs.Prelude.{◌≡◌, ◌<◌, ◌∷◌, ◌++◌, IfSome, IfNone, length};
+ghost use Rattle.chr_answers.specs.Lines.{lines};
+ghost use Rattle.chr_report.specs.Inputs.{is_divider, text_of, commands_of};
 ghost use Rattle.chr_report.specs.Outputs.{asked};
-ghost use Rattle.chr_report.specs.Served.{AreWholeLines, HasNoFeed};
 ghost use Rattle.chr_report.specs.working.Divided.{IsDivided, IsUndivided};
-ghost use Rattle.chr_report.specs.working.LinesLeft.{last_bytes, lines_left};
+ghost use Rattle.chr_report.specs.working.LinesLeft.{lines_left};
 
+use chr_answers::{ended_line, without_return};
 use chr_device::Verb;
 use chr_read::MAX_TEXT;
-use memchr::{memchr, memrchr};
 
 /// The most bytes that are held before the program text has ended: a longer beginning without a divider has a text over
 /// its limit, and is refused whatever follows. A line that is no longer than the longest divider may still become one.
 pub(crate) const MOST_TEXT: usize = MAX_TEXT + 4;
-
-/// How many bytes stand before the first line feed.
-fn line_len(bytes: &[u8]) -> usize
-    ensures value { result ≡ position_or_len (λ b. b == 10) bytes.now }
-    ensures within { result ≤ length bytes.now }
-{
-    match memchr(b'\n', bytes) {
-        Some(place) => place,
-        None => bytes.len(),
-    }
-}
-
-/// What stands before the first line feed and after it, or nothing where there is no line feed.
-pub(crate) fn ended_line(bytes: &[u8]) -> Option<(&[u8], &[u8])>
-    ensures some { IfSome result (λ p. bytes.now ≡ p.0.now ++ 10 ∷ p.1.now) }
-    ensures unended { IfSome result (λ p. HasNoFeed p.0.now) }
-    ensures shorter { IfSome result (λ p. length p.1.now < length bytes.now) }
-    ensures none { IfNone result (HasNoFeed bytes.now) }
-{
-    let n = line_len(bytes);
-    if n == bytes.len() {
-        return None;
-    }
-    Some((&bytes[..n], &bytes[n + 1..]))
-}
 
 /// The first line, and what comes after its line feed.
 pub(crate) fn next_line(bytes: &[u8]) -> (&[u8], Option<&[u8]>)
@@ -50,48 +24,6 @@ pub(crate) fn next_line(bytes: &[u8]) -> (&[u8], Option<&[u8]>)
     match ended_line(bytes) {
         Some((line, rest)) => (line, Some(rest)),
         None => (bytes, None),
-    }
-}
-
-/// The last `count` bytes of a text.
-pub(crate) fn last_bytes(text: &[u8], count: usize) -> &[u8]
-    ensures { result.now ≡ last_bytes count text.now }
-{
-    text.split_at(text.len().saturating_sub(count)).1
-}
-
-/// The first line of a text's last `left` bytes, and how many bytes come after its end, or nothing where no line ends
-/// in them.
-pub(crate) fn first_of_last(text: &[u8], left: usize) -> Option<(&[u8], usize)>
-    ensures some { IfSome result (λ p. last_bytes left text.now ≡ p.0.now ++ 10 ∷ last_bytes p.1 text.now) }
-    ensures unended { IfSome result (λ p. HasNoFeed p.0.now) }
-    ensures shorter { IfSome result (λ p. p.1 < left) }
-    ensures none { IfNone result (HasNoFeed (last_bytes left text.now)) }
-{
-    let (line, rest) = ended_line(last_bytes(text, left))?;
-    Some((line, rest.len()))
-}
-
-/// How many bytes of a text are whole lines: all up to its last line feed.
-pub(crate) fn whole_len(text: &[u8]) -> usize
-    ensures within { result ≤ length text.now }
-    ensures whole { AreWholeLines (take result text.now) }
-    ensures unended { HasNoFeed (drop result text.now) }
-{
-    match memrchr(b'\n', text) {
-        Some(place) => place + 1,
-        None => 0,
-    }
-}
-
-/// A line without the one carriage return at its end.
-pub(crate) fn without_return(line: &[u8]) -> &[u8]
-    ensures { result.now ≡ without_return line.now }
-{
-    if line.ends_with(b"\r") {
-        &line[..line.len() - 1]
-    } else {
-        line
     }
 }
 

@@ -2,7 +2,7 @@
 #![tactic(auto)]
 
 mod ahead;
-mod answering;
+mod between;
 mod block;
 mod blocks;
 mod carriage;
@@ -14,24 +14,19 @@ mod laws;
 mod one_text;
 mod promptly;
 mod readers;
-mod reply;
-mod request;
-mod resting;
 mod running;
-mod service;
 mod serving;
 mod sharing;
-mod shortening;
 mod verdict;
 mod wanted;
 mod wire;
 
+pub use chr_answers::{Refusal, answers_are_one, answers_exist, lines_are_the_input};
 pub use chr_device::{RunFault, Settings, Style, Verb, Watched, WordsFault, read_words};
 pub use input::program_text;
 pub use keeping::read_input;
-pub use laws::{checks_begin_runs, lines_are_the_input};
-pub use one_text::{answers_are_one, answers_exist, outputs_are_one, outputs_exist};
-pub use reply::Refusal;
+pub use laws::checks_begin_runs;
+pub use one_text::{outputs_are_one, outputs_exist};
 pub use running::{Status, run};
 pub use serving::serve;
 pub use wanted::Wanted;

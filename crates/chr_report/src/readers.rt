@@ -1,14 +1,14 @@
 //! Blocks of command lines that other threads read before their turn.
 ghost use Rattle.std.specs.Prelude.{◌≡◌, IfSome, IsTrue};
 ghost use Rattle.chr_join.specs.AcceptedPrograms.{program_in};
-ghost use Rattle.chr_report.specs.working.Ahead.{IsAhead};
+ghost use Rattle.chr_answers.specs.Ahead.{IsAhead};
 ghost use Rattle.chr_report.specs.working.BlockLines.{lines_of};
 ghost use Rattle.chr_report.specs.working.Readings.{Agree, IsRead};
 
-use crate::ahead::{Ahead, first_replica};
+use crate::ahead::{first_replica, read_ahead};
 use crate::block::Block;
 use crate::carriage::Carriage;
-use crate::gathering::Carried;
+use chr_answers::{Ahead, Carried};
 use chr_crew::{Desk, Inbox, Known, open};
 use chr_join::Accepted;
 use crossbeam_channel::{Receiver, Sender};
@@ -74,7 +74,7 @@ fn read_block(
 ) -> Done
     ensures { IsRead (program_in accepted.now) result }
 {
-    let ahead = Ahead::read(alloc, accepted, block.lines(), carried).ok();
+    let ahead = read_ahead(alloc, accepted, block.lines(), carried).ok();
     Done { block, ahead }
 }
 
@@ -114,14 +114,10 @@ pub(crate) fn do_task<K: Known<Done>, R: Wait>(
         None
     };
     let done = read_block(alloc, accepted, block, carried);
-    if let Some(
-        Ahead {
-            tells: Some(tells),
-            ..
-        },
-    ) = &done.ahead
-    {
-        carriage.give(rt, alloc, number, tells);
+    if let Some(ahead) = &done.ahead {
+        if let Some(tells) = ahead.rested() {
+            carriage.give(rt, alloc, number, tells);
+        }
     }
     let _heard = desk.send(rt, done);
 }

@@ -18,19 +18,19 @@ ghost use Rattle.chr_report.specs.Asked.{wanted_by};
 ghost use Rattle.chr_report.specs.Outputs.{IsOutput, IsAnswered};
 ghost use Rattle.chr_report.specs.Written.{Writes, WritesOutput, WritesBeginning};
 ghost use Rattle.chr_join.specs.AcceptedPrograms.{program_in};
+ghost use Rattle.chr_answers.specs.Answered.{AnswersRest};
 ghost use Rattle.chr_report.specs.working.LinesLeft.{lines_left};
-ghost use Rattle.chr_report.specs.working.Services.{held, served, IsBetweenLines};
+ghost use Rattle.chr_answers.specs.Services.{held, served, IsBetweenLines};
 ghost use Rattle.chr_report.specs.working.Serving.{IsOpened, WritesText};
 
-use crate::answering::answer_commands;
 use crate::blocks::answer_input;
 use crate::input::{MOST_TEXT, asked, divided, split};
 use crate::judging::{Judged, judge};
 use crate::keeping::read_input;
-use crate::service::Service;
-use crate::sharing::Sharing;
+use crate::sharing::sharing_by;
 use crate::verdict::accepted_line;
 use crate::wanted::Wanted;
+use chr_answers::{Ahead, Answering, Service, Sharing, answer_all};
 use chr_device::{RunFault, Settings, Verb, Watched, read_on, read_past, write_whole};
 use chr_join::Accepted;
 use std::alloc::{AllocError, Global};
@@ -83,6 +83,30 @@ pub(crate) fn opening(
     let line = accepted_line(alloc, rules, accepted.cases())?;
     let service = Service::open(alloc, accepted, wanted.replicas, sharing)?;
     Ok((line, service))
+}
+
+/// Answers all commands that are held, where there are any, after a text. The process is about to end then, and its
+/// memory with it, so the replicas are left as they are: to free a million operations one by one takes time.
+fn answer_commands<R: Threads + Wait + Sync>(
+    rt: &R,
+    alloc: Global,
+    service: Service,
+    commands: Option<&[u8]>,
+    text: String,
+) -> Result<String, AllocError>
+    requires { IsBetweenLines service }
+    ensures { IfOk result (λ out. AnswersRest (declarations (served service)) (rules_of (served service))
+        (lines_left commands.entry) (held service) (string_bytes text) (string_bytes out)) }
+{
+    let Some(input) = commands else {
+        return Ok(text);
+    };
+    let at = Answering {
+        service,
+        out: text,
+        left: input.len(),
+    };
+    answer_all(rt, alloc, input, at, Ahead::none(alloc))
 }
 
 /// The verdict's line, and the answers to the commands that are held.
@@ -296,7 +320,7 @@ pub fn run<R: Read, W: Write>(
         reader,
         settings.command,
         Wanted::from_settings(settings),
-        Sharing::from_settings(settings),
+        sharing_by(settings),
     )?;
     write_whole(writer, output.text.as_bytes())?;
     Ok(output.status)

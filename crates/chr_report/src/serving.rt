@@ -16,23 +16,23 @@ ghost use Rattle.chr_read.specs.ProgramTexts.{IsAnswer};
 ghost use Rattle.chr_read.specs.declared.fault.ReadFault.{ReadFault};
 ghost use Rattle.chr_report.specs.declared.running.Status.TheVariants as status;
 ghost use Rattle.chr_report.specs.Asked.{wanted_by};
-ghost use Rattle.chr_report.specs.Served.{AllAnswered, HasNoFeed};
+ghost use Rattle.chr_report.specs.Served.{AllAnswered};
+ghost use Rattle.chr_answers.specs.Lines.{HasNoFeed};
 ghost use Rattle.chr_report.specs.Written.{WritesOutput, WritesBeginning};
-ghost use Rattle.chr_report.specs.working.Services.{held, served, IsBetweenLines};
+ghost use Rattle.chr_answers.specs.Services.{held, served, IsBetweenLines};
 ghost use Rattle.chr_report.specs.working.Serving.{AnswersChunk, AnswersCommands, AnswersInput, AnswersPart};
 ghost use Rattle.chr_report.specs.working.Serving.{AnswersFrontRead, IsCut, SendsAnswer, SendsSome, WritesText};
 ghost use Rattle.chr_report.specs.working.Serving.{WritesTextPart};
 
-use crate::answering::answer_line;
-use crate::input::{MOST_TEXT, divided, ended_line, without_return};
+use crate::input::{MOST_TEXT, divided};
 use crate::judging::{Judged, judge};
-use crate::one_text::answers_exist;
 use crate::running::{Status, opening, output_of};
-use crate::service::Service;
-use crate::sharing::Sharing;
-use crate::shortening::shorten;
+use crate::sharing::sharing_by;
 use crate::wanted::Wanted;
 use crate::wire::Wire;
+use chr_answers::{
+    Service, Sharing, answer_line, answers_exist, ended_line, shorten, without_return,
+};
 use chr_device::{RunFault, Settings, Verb};
 use chr_join::Accepted;
 use std::alloc::Global;
@@ -324,6 +324,6 @@ pub fn serve<T: Wire>(
         alloc,
         wire,
         Wanted::from_settings(settings),
-        Sharing::from_settings(settings),
+        sharing_by(settings),
     )
 }

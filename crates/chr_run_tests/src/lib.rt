@@ -1,5 +1,5 @@
-//! Tests of words and devices, and of runs and services over readers and writers of memory, in the public words of
-//! `chr_device` and `chr_report`. There is nothing here but tests.
+//! Tests of devices, of threads that are kept, and of the loop that feeds a machine, over readers, writers and wires
+//! that give and take little or fail, in public words. There is nothing here but tests.
 #![tactic(auto)]
 
 #[cfg(test)]

@@ -1,14 +1,19 @@
-//! Calls of seats at shared books, and their receipts; seats in threads of their own; and an auction as an example.
+//! Calls of seats at shared books, and their receipts; seats in threads of their own; leases that come back; journals
+//! that are replayed; and an auction as an example.
 ghost use Rattle.std.specs.Prelude.{◌≡◌};
 
 mod auction;
 mod calls;
-mod refusals;
+mod claims;
+mod common;
+mod leases;
+mod replay;
 mod rows;
 mod threads;
 
+use crate::tests::common::{accepted, opening};
 use chr_shared::{Naming, Opening, Seat, Shared};
-use chr_shared_testing::{MINIMUM, accepted, opening};
+use chr_testing::texts::MINIMUM;
 use std::alloc::Global;
 use std::process::Abort;
 use std::thread::Threads;

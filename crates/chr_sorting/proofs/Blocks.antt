@@ -15,7 +15,7 @@ use Rattle.chr_types.proofs.Holes.{same_yes, yes_same, same_no}
 use Rattle.chr_types.proofs.RisingLists.{ListsRise}
 use Rattle.chr_types.proofs.Enumeration.{flat_rises, lex}
 use Rattle.chr_types.proofs.Members.{in_flat_map, flat_map_in}
-use Rattle.chr_sorts.specs.Lists.{AreBlocks}
+use Rattle.chr_confluence.specs.SortLists.{AreBlocks}
 use Rattle.chr_sorting.specs.SortedCaseLists.{AreFirstNumbers}
 use Rattle.chr_sorting.specs.working.Blocks.{inserted, going_on, lists_behind}
 

@@ -15,9 +15,9 @@ use Rattle.chr_confluence.specs.Unifiers.{Substitution}
 use Rattle.chr_confluence.specs.Representatives.{free_variables}
 use Rattle.chr_confluence.proofs.Frees.{free_is}
 use Rattle.chr_confluence.proofs.Numbered.{variable_stands}
-use Rattle.chr_sorts.specs.Sorts.{first_sort, sort_of}
-use Rattle.chr_sorts.specs.SortedCases.{joint_sort}
-use Rattle.chr_sorts.proofs.Places.{term_at}
+use Rattle.chr_confluence.specs.Sorts.{first_sort, sort_of}
+use Rattle.chr_confluence.specs.SortedCases.{joint_sort}
+use Rattle.chr_confluence.proofs.SortPlaces.{term_at}
 use Rattle.chr_sorting.specs.declared.sorting.Sorting.{Sorting}
 use Rattle.chr_sorting.specs.FinestSorts.{AreShort, sort_in, sorts_of}
 use Rattle.chr_sorting.specs.working.Notes.{numbering, placed_heads}

@@ -5,9 +5,9 @@ use Rattle.std.proofs.lemmas.Bool.{eqb-true, eq-eqb}
 use Rattle.std.proofs.lemmas.Int.{ints}
 use Rattle.std.proofs.lemmas.List.{nil_from_length}
 use Rattle.chr_types.specs.OrderTypes.{In, Rises, RisesBy, AreValues, IsValue}
-use Rattle.chr_sorts.specs.Sorts.{Kind, ordered, equal, free}
-use Rattle.chr_sorts.specs.Lists.{AreBlocks, AreNew, CoverAt, StandsAt, values_at, sort_count}
-use Rattle.chr_sorts.specs.laws.SortedLists.{NewValuesCover, BlocksCover, OrderTypesCover, CombinationsCover}
+use Rattle.chr_confluence.specs.Sorts.{Kind, ordered, equal, free}
+use Rattle.chr_confluence.specs.SortLists.{AreBlocks, AreNew, CoverAt, StandsAt, values_at, sort_count}
+use Rattle.chr_confluence.specs.laws.SortedLists.{NewValuesCover, BlocksCover, OrderTypesCover, CombinationsCover}
 use Rattle.chr_sorting.specs.SortedCaseLists.{AreFirstNumbers, AreListsAt}
 use Rattle.chr_sorting.specs.laws.Combinations.{CombinationsAreValues, CombinationsStandForAll}
 

@@ -20,8 +20,8 @@ use Rattle.chr_base.specs.Programs.{declarations, rules_of}
 use Rattle.chr_base.specs.Rules.{heads_of}
 use Rattle.chr_types.specs.OrderTypes.{In}
 use Rattle.chr_types.proofs.Members.{in_either}
-use Rattle.chr_sorts.specs.Sorts.{Sorts, Kind, free, tells, Fit}
-use Rattle.chr_sorts.proofs.Moves.{all_in}
+use Rattle.chr_confluence.specs.Sorts.{Sorts, Kind, free, tells, Fit}
+use Rattle.chr_confluence.proofs.SortMoves.{all_in}
 use Rattle.chr_overlaps.specs.working.Gathering.{AreConstantsIn}
 use Rattle.chr_sorting.specs.declared.kind.Kind.TheVariants.{Free}
 use Rattle.chr_sorting.specs.declared.notes.Note.{Note}

@@ -20,8 +20,8 @@ use Rattle.chr_confluence.specs.Constants.{guard_terms, rule_terms}
 use Rattle.chr_confluence.proofs.ConstantLaws.{constants_fit}
 use Rattle.chr_confluence.proofs.Frees.{in_map}
 use Rattle.chr_confluence.proofs.Listed.{value_is}
-use Rattle.chr_sorts.specs.Sorts.{Kind, free, sorted_terms, first_sort}
-use Rattle.chr_sorts.proofs.Places.{term_in}
+use Rattle.chr_confluence.specs.Sorts.{Kind, free, sorted_terms, first_sort}
+use Rattle.chr_confluence.proofs.SortPlaces.{term_in}
 use Rattle.chr_overlaps.specs.working.Gathering.{AreConstantsIn}
 use Rattle.chr_overlaps.proofs.CasesThere.{constants_in}
 use Rattle.chr_sorting.specs.declared.notes.Note.{Note}

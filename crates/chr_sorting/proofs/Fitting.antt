@@ -19,11 +19,11 @@ use Rattle.chr_types.specs.OrderTypes.{In}
 use Rattle.chr_types.proofs.Members.{in_first, in_second, in_either}
 use Rattle.chr_confluence.proofs.Frees.{in_map}
 use Rattle.chr_confluence.proofs.Numbered.{occurs_in, in_occurs}
-use Rattle.chr_sorts.specs.Sorts.{Sorts, tells, terms_from, sorted_terms, sorted_rule_terms, first_sort, sort_of}
-use Rattle.chr_sorts.specs.Sorts.{FitComparison, FitRule}
-use Rattle.chr_sorts.proofs.Places.{term_at, term_in}
-use Rattle.chr_sorts.proofs.Moves.{bound_in}
-use Rattle.chr_sorts.proofs.Equations.{in_mapped, guard_bound}
+use Rattle.chr_confluence.specs.Sorts.{Sorts, tells, terms_from, sorted_terms, sorted_rule_terms, first_sort, sort_of}
+use Rattle.chr_confluence.specs.Sorts.{FitComparison, FitRule}
+use Rattle.chr_confluence.proofs.SortPlaces.{term_at, term_in}
+use Rattle.chr_confluence.proofs.SortMoves.{bound_in}
+use Rattle.chr_confluence.proofs.SortEquations.{in_mapped, guard_bound}
 use Rattle.chr_sorting.specs.declared.notes.Note.{Note}
 use Rattle.chr_sorting.specs.declared.notes.Note.TheVariants.{Joined, Stands, Compared}
 use Rattle.chr_sorting.specs.FinestSorts.{AreShort, position_of}

@@ -6,7 +6,7 @@ use mathlib.Core.Bool.{true≢false}
 use Rattle.chr_base.specs.declared.term.Cmp.{Cmp}
 use Rattle.chr_base.specs.declared.term.Cmp.TheVariants.{Less, AtMost, Greater, AtLeast, Equal, NotEqual}
 use Rattle.chr_types.proofs.Members.{in_first, in_second, in_last}
-use Rattle.chr_sorts.specs.Sorts.{Kind, ordered, equal, free, tells}
+use Rattle.chr_confluence.specs.Sorts.{Kind, ordered, equal, free, tells}
 use Rattle.chr_sorting.specs.declared.notes.Note.{Note}
 use Rattle.chr_sorting.specs.declared.notes.Note.TheVariants.{Joined, Stands, Compared}
 use Rattle.chr_sorting.specs.working.Notes.{MeetsKind, IsLeastKind, raised}

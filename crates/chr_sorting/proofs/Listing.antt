@@ -8,8 +8,8 @@ use Rattle.std.proofs.lemmas.List.Concat.{flat_map-append}
 use Rattle.chr_base.specs.declared.term.Term.{Term}
 use Rattle.chr_base.specs.declared.term.Term.TheVariants.{Constant}
 use Rattle.chr_base.specs.declared.term.Pattern.{Pattern}
-use Rattle.chr_sorts.specs.Sorts.{terms_from, sorted_terms}
-use Rattle.chr_sorts.proofs.Places.{sorted-append}
+use Rattle.chr_confluence.specs.Sorts.{terms_from, sorted_terms}
+use Rattle.chr_confluence.proofs.SortPlaces.{sorted-append}
 use Rattle.chr_overlaps.specs.working.Gathering.{AreConstantsIn, Gathers}
 use Rattle.chr_sorting.specs.declared.notes.Note.{Note}
 use Rattle.chr_sorting.specs.declared.notes.Note.TheVariants.{Joined, Stands, Compared}

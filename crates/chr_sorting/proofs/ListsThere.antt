@@ -8,7 +8,7 @@ use mir.Syntax.{w64}
 use Rattle.chr_types.specs.OrderTypes.{In, Rises, AreValues, IsValue, MoreTypesThan}
 use Rattle.chr_types.proofs.TypesThere.{types_there}
 use Rattle.chr_types.proofs.TooMany.{not_more}
-use Rattle.chr_sorts.specs.Sorts.{Kind, ordered, equal, free}
+use Rattle.chr_confluence.specs.Sorts.{Kind, ordered, equal, free}
 use Rattle.chr_sorting.specs.SortedCaseLists.{AreFirstNumbers, AreListsAt, MoreListsThan}
 use Rattle.chr_sorting.specs.working.Blocks.{lists_behind}
 use Rattle.chr_sorting.proofs.Blocks.{behind_rise, blocks_listed, many_blocks}

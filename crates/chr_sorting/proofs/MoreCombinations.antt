@@ -9,8 +9,8 @@ use Rattle.chr_types.specs.Visits.{Visited}
 use Rattle.chr_types.specs.declared.visitors.LimitedCount.{LimitedCount}
 use Rattle.chr_types.proofs.Counted.{Step, counted_past, counted_within}
 use Rattle.chr_types.proofs.Members.{in_last}
-use Rattle.chr_sorts.specs.Sorts.{Sorts, Kind}
-use Rattle.chr_sorts.specs.Lists.{sort_count}
+use Rattle.chr_confluence.specs.Sorts.{Sorts, Kind}
+use Rattle.chr_confluence.specs.SortLists.{sort_count}
 use Rattle.chr_sorting.specs.SortedCaseLists.{AreListsAt, MoreListsThan, AreCombinations, MoreCombinationsThan}
 use Rattle.chr_sorting.specs.declared.weave.SortLists.{SortLists}
 use Rattle.chr_sorting.specs.working.Weaving.{held, woven, AreListsOf, HasMoreLists, LeaveRoom}

@@ -10,8 +10,8 @@ use Rattle.chr_types.specs.OrderTypes.{In, Rises}
 use Rattle.chr_types.proofs.Bases.{lt_true, lt_false}
 use Rattle.chr_types.proofs.RisingLists.{same_members}
 use Rattle.chr_types.proofs.OneList.{never, one_list}
-use Rattle.chr_sorts.specs.Sorts.{Kind, ordered, equal, free}
-use Rattle.chr_sorts.specs.Lists.{AreBlocks, values_at, sort_count}
+use Rattle.chr_confluence.specs.Sorts.{Kind, ordered, equal, free}
+use Rattle.chr_confluence.specs.SortLists.{AreBlocks, values_at, sort_count}
 use Rattle.chr_sorting.specs.SortedCaseLists.{AreFirstNumbers, AreListsAt, AreCombinations}
 use Rattle.chr_sorting.specs.laws.Combinations.{CombinationsAreOne}
 

@@ -21,12 +21,12 @@ use Rattle.chr_confluence.specs.Overlaps.{variables_of}
 use Rattle.chr_confluence.specs.Representatives.{free_variables}
 use Rattle.chr_confluence.proofs.Frees.{free_is, in_map}
 use Rattle.chr_confluence.proofs.Numbered.{variable_stands}
-use Rattle.chr_sorts.specs.Sorts.{Sorts, Kind, ordered, equal, free, tells, terms_from, sorted_terms, first_sort}
-use Rattle.chr_sorts.specs.Sorts.{sort_of}
-use Rattle.chr_sorts.specs.Lists.{sort_count}
-use Rattle.chr_sorts.specs.SortedCases.{all_equations, joint_sort, class_sorts}
-use Rattle.chr_sorts.proofs.Places.{stands_at_sort}
-use Rattle.chr_sorts.proofs.Equations.{sort_left, sort_right}
+use Rattle.chr_confluence.specs.Sorts.{Sorts, Kind, ordered, equal, free, tells, terms_from, sorted_terms, first_sort}
+use Rattle.chr_confluence.specs.Sorts.{sort_of}
+use Rattle.chr_confluence.specs.SortLists.{sort_count}
+use Rattle.chr_confluence.specs.SortedCases.{all_equations, joint_sort, class_sorts}
+use Rattle.chr_confluence.proofs.SortPlaces.{stands_at_sort}
+use Rattle.chr_confluence.proofs.SortEquations.{sort_left, sort_right}
 use Rattle.chr_overlaps.specs.declared.overlap.Overlap.{Overlap}
 use Rattle.chr_overlaps.specs.declared.cases.Case.{Case}
 use Rattle.chr_sorting.specs.FinestSorts.{AreShort, AreFinest}

@@ -7,8 +7,8 @@ use Rattle.std.proofs.lemmas.Option.{none-some, same_Some}
 use Rattle.chr_types.specs.OrderTypes.{In, Rises, MoreTypesThan}
 use Rattle.chr_types.specs.Representatives.{AreTypes}
 use Rattle.chr_types.proofs.TooMany.{more_types}
-use Rattle.chr_sorts.specs.Sorts.{Sorts, ordered}
-use Rattle.chr_sorts.specs.Lists.{sort_count, values_at}
+use Rattle.chr_confluence.specs.Sorts.{Sorts, ordered}
+use Rattle.chr_confluence.specs.SortLists.{sort_count, values_at}
 use Rattle.chr_sorting.specs.SortedCaseLists.{AreListsAt, AreCombinations, MoreCombinationsThan}
 use Rattle.chr_sorting.specs.working.Weaving.{IsOnlyOrdered, LeaveRoom}
 use Rattle.chr_sorting.proofs.ListsThere.{lists_there, more_ordered}

@@ -18,8 +18,8 @@ use Rattle.chr_types.proofs.Enumeration.{flat_rises, lex}
 use Rattle.chr_types.proofs.OneList.{never}
 use Rattle.chr_types.proofs.Holes.{others_in, same_yes, same_no, yes_same}
 use Rattle.chr_types.proofs.Bases.{apart}
-use Rattle.chr_sorts.specs.Sorts.{Sorts, Kind, ordered, equal, free}
-use Rattle.chr_sorts.specs.Lists.{AreBlocks, values_at, sort_count}
+use Rattle.chr_confluence.specs.Sorts.{Sorts, Kind, ordered, equal, free}
+use Rattle.chr_confluence.specs.SortLists.{AreBlocks, values_at, sort_count}
 use Rattle.chr_sorting.specs.SortedCaseLists.{AreListsAt, AreCombinations}
 use Rattle.chr_sorting.specs.working.Blocks.{next_number}
 use Rattle.chr_sorting.specs.working.Weaving.{firsts, each_once, tails, begun, woven}

@@ -6,7 +6,7 @@ use Rattle.chr_base.specs.declared.term.Pattern.{Pattern}
 use Rattle.chr_base.specs.declared.rule.Rule.{Rule}
 use Rattle.chr_base.specs.Rules.{heads_of}
 use Rattle.chr_types.specs.OrderTypes.{In, Rises, AreValues}
-use Rattle.chr_sorts.specs.Sorts.{Sorts, Kind, ordered, equal, free, tells, Fit}
+use Rattle.chr_confluence.specs.Sorts.{Sorts, Kind, ordered, equal, free, tells, Fit}
 use Rattle.chr_sorting.specs.declared.kind.Kind.{Kind as KindTold}
 use Rattle.chr_sorting.specs.declared.kind.Kind.TheVariants as told
 use Rattle.chr_sorting.specs.declared.sorting.Sorting.{Sorting}

@@ -10,9 +10,9 @@ use Rattle.chr_types.specs.OrderTypes.{In, Rises, RisesBy, AreValues}
 use Rattle.chr_types.specs.Representatives.{AreTypes}
 use Rattle.chr_confluence.specs.Unifiers.{Substitution, IsMostGeneralUnifier, HasNoUnifier}
 use Rattle.chr_confluence.specs.Representatives.{guards_hold}
-use Rattle.chr_sorts.specs.Sorts.{Sorts, Kind, ordered, equal, free}
-use Rattle.chr_sorts.specs.Lists.{AreBlocks, values_at, sort_count}
-use Rattle.chr_sorts.specs.SortedCases.{all_equations, class_sorts}
+use Rattle.chr_confluence.specs.Sorts.{Sorts, Kind, ordered, equal, free}
+use Rattle.chr_confluence.specs.SortLists.{AreBlocks, values_at, sort_count}
+use Rattle.chr_confluence.specs.SortedCases.{all_equations, class_sorts}
 use Rattle.chr_overlaps.specs.declared.overlap.Overlap.{Overlap}
 use Rattle.chr_overlaps.specs.declared.cases.Case.{Case}
 use Rattle.chr_overlaps.specs.declared.cases.TheConstants.{MAX_TYPES}

@@ -2,8 +2,8 @@
 ghost use Rattle.std.specs.Prelude.{◌≡◌, ◌<◌, ◌≤◌, ◌-◌, if◌then◌else◌, nat_le, IfOk};
 ghost use Rattle.chr_base.specs.Rules.{heads_of};
 ghost use Rattle.chr_confluence.specs.Overlaps.{variables_of};
-ghost use Rattle.chr_sorts.specs.Sorts.{first_sort};
-ghost use Rattle.chr_sorts.specs.SortedCases.{class_sorts};
+ghost use Rattle.chr_confluence.specs.Sorts.{first_sort};
+ghost use Rattle.chr_confluence.specs.SortedCases.{class_sorts};
 ghost use Rattle.chr_overlaps.specs.working.Unifiers.{classes_of, IsUnified};
 ghost use Rattle.chr_sorting.specs.FinestSorts.{AreShort, sorts_of};
 

@@ -2,7 +2,7 @@
 ghost use Rattle.std.specs.Prelude.{◌≡◌, ◌≤◌, ◌↔◌, ℕ, ℤ, List, IfOk, IfSome, IfNone, IsTrue, length};
 ghost use Rattle.chr_types.specs.OrderTypes.{Rises};
 ghost use Rattle.chr_types.specs.Visits.{Visited};
-ghost use Rattle.chr_sorts.specs.Lists.{sort_count};
+ghost use Rattle.chr_confluence.specs.SortLists.{sort_count};
 ghost use Rattle.chr_sorting.specs.FinestSorts.{sorts_of};
 ghost use Rattle.chr_sorting.specs.SortedCaseLists.{AreCombinations, MoreCombinationsThan};
 ghost use Rattle.chr_sorting.specs.working.Weaving.{held, AreListsOf, HasMoreLists, IsOnlyOrdered, LeaveRoom};

@@ -5,7 +5,7 @@ ghost use Rattle.chr_sorting.specs.laws.Combinations.{CombinationsAreOne, Combin
 ghost use Rattle.chr_sorting.specs.laws.Combinations.{CombinationsStandForAll};
 ghost use Rattle.chr_sorting.specs.laws.Lists.{ListsAreOne, ListsExist};
 
-use chr_sorts::laws::sorted_lists;
+use chr_confluence::sorted_laws::sorted_lists;
 
 /// All combinations of one list at each sort cover: for each list of 64-bit values one of them stands, sort by sort.
 /// Their values are 64-bit values, where the sorts' constants are. There is one list of them, where the constants rise.

@@ -2,7 +2,7 @@
 ghost use Rattle.std.specs.Prelude.{◌≡◌, ◌+◌, ◌≤◌, ◌<◌, ◌^◌, ◌++◌, ◌∷◌, [], IfOk, IfSome, IfNone, IsTrue, IsFalse};
 ghost use Rattle.std.specs.Prelude.{length, map};
 ghost use Rattle.chr_types.specs.OrderTypes.{Rises, AreValues};
-ghost use Rattle.chr_sorts.specs.Sorts.{ordered, equal, free};
+ghost use Rattle.chr_confluence.specs.Sorts.{ordered, equal, free};
 ghost use Rattle.chr_sorting.specs.FinestSorts.{kind_of};
 ghost use Rattle.chr_sorting.specs.SortedCaseLists.{AreFirstNumbers, AreListsAt, MoreListsThan};
 ghost use Rattle.chr_sorting.specs.working.Blocks.{inserted, lists_behind};

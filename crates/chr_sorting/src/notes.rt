@@ -3,7 +3,7 @@ ghost use Rattle.std.specs.Prelude.{◌≡◌, ◌+◌, ◌<◌, ◌≤◌, ◌+
 ghost use Rattle.std.specs.List.{flat_map};
 ghost use Rattle.chr_base.specs.declared.limits.TheConstants.{MAX_ARITY};
 ghost use Rattle.chr_base.specs.Rules.{heads_of};
-ghost use Rattle.chr_sorts.specs.Sorts.{terms_from, sorted_terms, first_sort};
+ghost use Rattle.chr_confluence.specs.Sorts.{terms_from, sorted_terms, first_sort};
 ghost use Rattle.chr_sorting.specs.FinestSorts.{position_of};
 ghost use Rattle.chr_sorting.specs.working.Notes.{numbering, placed_heads, term_note, comparison_notes, bound_notes};
 ghost use Rattle.chr_sorting.specs.working.Notes.{guard_notes, rule_notes};

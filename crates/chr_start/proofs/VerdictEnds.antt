@@ -23,7 +23,8 @@ use Rattle.chr_diagnosis.specs.Judgements.{HasTooManyTypes, IsChosen, IsJudged}
 use Rattle.chr_diagnosis.specs.Verdicts.{IsRefusedByOverlap, IsUnlowered, IsVerdict}
 use Rattle.chr_report.specs.declared.running.Status.{Status}
 use Rattle.chr_report.specs.declared.running.Status.TheVariants.{Refused}
-use Rattle.chr_report.specs.Lines.{lines, text_of}
+use Rattle.chr_answers.specs.Lines.{lines}
+use Rattle.chr_report.specs.Inputs.{text_of}
 use Rattle.chr_report.specs.Asked.{replicas_by}
 use Rattle.chr_report.specs.Outputs.{Decides, IsOutput, IsReadOutput, IsRulesOutput, accepted_text, not_lowered_text}
 use Rattle.chr_report.specs.Overlaps.{failure_text, too_many_text}

@@ -8,3 +8,7 @@ pub mod Reading
 pub mod OneTable
 pub mod Looking
 pub mod Compacting
+pub mod LaneMasks
+pub mod LaneSigned
+pub mod LaneBlocks
+pub mod LaneRuns

@@ -1,3 +1,4 @@
 pub mod Hashes
 pub mod Contents
 pub mod working
+pub mod LaneRows

@@ -1,3 +1,4 @@
 pub mod Finders
 pub mod Indexes
 pub mod Cells
+pub mod Lanes

@@ -5,12 +5,12 @@ ghost use Rattle.chr_base.specs.declared.limits.TheConstants.{MAX_ARITY};
 ghost use Rattle.chr_tables.specs.working.Cells.{cell_value, arguments, HoldsValues, NoneIs, NoneHasArgument};
 ghost use Rattle.chr_base.specs.declared.atom.Atom.{Atom as AtomValue};
 
+use crate::lanes::{Against, Test, first_row};
 use crate::shape::Shape;
 use arrayvec::ArrayVec;
 use chr_base::atom::Atom;
 use chr_base::limits::MAX_ARITY;
 use chr_base::term::Cmp;
-use chr_lanes::{Against, Test, first_row};
 use std::alloc::{AllocError, Global};
 use std::marker::Model;
 

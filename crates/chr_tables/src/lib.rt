@@ -9,6 +9,7 @@ mod cells;
 mod finder;
 pub mod hash;
 mod indexes;
+pub mod lanes;
 mod shape;
 pub mod table;
 pub mod tables;

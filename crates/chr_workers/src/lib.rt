@@ -5,6 +5,7 @@
 //! that of one thread, whatever the workers do, and whichever of them were started.
 #![tactic(auto)]
 
+pub mod claims;
 mod gate;
 mod parts;
 mod rested;

@@ -1,12 +1,12 @@
 //! Parts that are claimed by workers, and rested.
 ghost use Rattle.std.specs.Prelude.{◌≡◌, ◌≤◌, vec_len, All, IfOk};
 ghost use Rattle.chr_base.specs.declared.limits.TheConstants.{MAX_PARTS, MAX_WORKERS};
-ghost use Rattle.chr_claims.specs.Seats.{IsOf};
+ghost use Rattle.chr_workers.specs.ClaimSeats.{IsOf};
 
+use crate::claims::{ClaimSeat, Claims};
 use crate::gate::{Gate, Passed};
 use crate::rested::Rested;
 use chr_base::limits::{MAX_PARTS, MAX_WORKERS};
-use chr_claims::{ClaimSeat, Claims};
 use chr_join::{Accepted, Lease};
 use std::alloc::{AllocError, Global};
 use std::sync::{Mutex, Wait};

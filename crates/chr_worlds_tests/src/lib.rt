@@ -1,4 +1,5 @@
-//! Tests of worlds of replicas, to which given or random events happen. There is nothing here but tests.
+//! Tests of worlds of replicas, in public words: rows of events, and random events beside a slow model. There is
+//! nothing here but tests.
 #![tactic(auto)]
 
 #[cfg(test)]

@@ -1,6 +1,5 @@
-//! Worlds of replicas let events happen, on programs and stores that are given as texts.
+//! Events happen to worlds of programs that are given as texts. Where memory runs out a test ends.
 mod asking;
-mod calls;
 mod events;
 mod random_worlds;
-mod worlds;
+mod texts;

@@ -56,7 +56,7 @@ def told_of(program: Program, name: str, arity: int) -> list[str]:
     found = staying(program, name, arity)
     twice = found.get(frozenset())
     stays = f"may stay twice, as {store_text(twice)}" if twice else "never stays twice"
-    lines = [f"told twice it {stays}"]
+    lines = [f"a fact that is told twice {stays}"]
     compared = keys(program, name, arity)
     key = frozenset.intersection(*compared) if compared else frozenset()
     if compared and len(key) < arity:

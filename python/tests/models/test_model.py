@@ -14,7 +14,7 @@ class Model(test_runs.Runs):
     def written(self, words: Sequence[str], given: bytes) -> tuple[int, str]:
         replicas = int(words[words.index("--replicas") + 1]) if "--replicas" in words else 1
         lines = output_of(given, replicas, MOST_TYPES, "--wide" in words)
-        told = lines if words[0] == "run" else lines[:1]
+        told = lines[:1] if words[0] == "check" else lines
         return 0 if lines[0].startswith("accepted") else 1, "".join(f"{line}\n" for line in told)
 
 

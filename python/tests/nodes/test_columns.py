@@ -37,7 +37,8 @@ class Names(unittest.TestCase):
             self.assertEqual(columns.argument("seen", 3, 4), "argument 4")
 
     def test_what_names_no_columns_is_told(self) -> None:
-        no_name = "is no name of a column: that is a word with a small first letter"
+        word = "that is a word of at most 32 letters, digits and `_`, with a small letter first"
+        no_name = f"is no name of a column: {word}"
         form = "names no columns: `% chr_columns seen(parcel, time, place)` does"
         rows = [
             ("chr_columns", f"'' {form}"),
@@ -50,6 +51,8 @@ class Names(unittest.TestCase):
             ("chr_columns seen(Parcel,time,place)", f"'Parcel' {no_name}"),
             ("chr_columns seen(a,,c)", f"'' {no_name}"),
             ("chr_columns seen(a,\u00e9,c)", f"'\u00e9' {no_name}"),
+            (f"chr_columns seen(a,{'b' * 32},{'c' * 33})", f"'{'c' * 33}' {no_name}"),
+            ("chr_columns seen(a,\u00a0b,c)", f"'b' {no_name}"),
             ("chr_columns sen(a,b)", "no symbol 'sen' is declared: is 'seen' meant?"),
             ("chr_columns seen(a)", "'seen' is declared with 3 or 2 arguments, and not with 1"),
             ("chr_columns coin(a)", "'coin' is declared with 0 arguments, and not with 1"),

@@ -11,6 +11,7 @@ ACCEPTED_TEXTS = (
     ("% café. \x07", "accepted: rules 0, cases 0\n"),
     (":- chr_constraint a/0.", "accepted: rules 0, cases 0\n"),
     (":- use_module(library(chr)).", "accepted: rules 0, cases 0\n"),
+    (":-use_module(library(chr)).:-use_module ( library ( chr ) ) .", "accepted: rules 0, cases 0\n"),
     (":- chr_constraint a/1. a(X) <=> X == 1 | true.", "accepted: rules 1, cases 1\n"),
     (":- chr_constraint a/1. a(-9223372036854775808) <=> true.", "accepted: rules 1, cases 1\n"),
 )
@@ -73,6 +74,102 @@ FAULTS_BESIDE_OTHERS = (
     ("a <=> b. a <=> true", "refused 5: clause 1\n"),
 )
 
+FAULTS_OF_DIRECTIVES = (
+    ("\x07.", "refused 1: clause 1\n"),
+    (":- chr_constraint a/0. é", "refused 1: clause 2\n"),
+    ("a", "refused 11: clause 1\n"),
+    (":- chr_constraint a/0", "refused 11: clause 1\n"),
+    (":- chr_constraint a/0. $", "refused 11: clause 2\n"),
+    (":- chr_constraint a/0. $.", "refused 3: clause 2\n"),
+    (":- chr_constraint a/0, a/00.", "refused 6: clause 1\n"),
+    (":- chr_constraint a/9, a/09.", "refused 6: clause 1\n"),
+    (":- chr_constraint a/0. :- chr_constraint b/1, a/0.", "refused 6: clause 2\n"),
+    (":- chr_constraint a/6.", "accepted: rules 0, cases 0\n"),
+    (":- chr_constraint a/9, a/8.", "refused 7: clause 1\n"),
+    (":- chr_constraint a/256.", "refused 7: clause 1\n"),
+    (":- chr_constraint a/18446744073709551616.", "refused 7: clause 1\n"),
+    (":- chr_constraint a234567890123456789012345678901xy/0.", "refused 7: clause 1\n"),
+    (":-chr_constraintx a/0.", "refused 3: clause 1\n"),
+    (":- chr_constraint true/0.", "refused 3: clause 1\n"),
+    (":- chr_constraint a/-1.", "refused 3: clause 1\n"),
+)
+
+FAULTS_OF_RULES = (
+    ("a(X) <=> X = 1 | true", 3),
+    ("a <=> fail", 3),
+    ("true <=> a", 3),
+    ("a(1.0) <=> true", 3),
+    ("a(X) <=> X<=3 | true", 3),
+    ("a(X) <=> X-3 | true", 3),
+    ("a ==> true", 4),
+    ("x ==> x(Y)", 4),
+    ("a(X) <=> b(X)", 5),
+    ("a <=> a(1,2)", 5),
+    ("b \\ a <=> true", 5),
+    ("a, a, a, a, b <=> true", 5),
+    ("a <=> a, a, a, a, a, a, a, a, a, a(Y), b", 5),
+    ("b234567890123456789012345678901xy <=> true", 5),
+    ("a(X) <=> Y > 1 | true", 8),
+    ("a(X) <=> a(Y)", 8),
+    ("a(_) <=> a(_)", 8),
+    ("a(_) <=> 1 < _ | true", 8),
+    ("a(9223372036854775808) <=> a(Y)", 8),
+    ("a(9223372036854775808) <=> true", 9),
+    ("a(X) <=> X > -9223372036854775809 | true", 9),
+    ("a <=> a(100000000000000000000000000000000000000000)", 9),
+    ("a, a, a, a, a <=> true", 7),
+    ("a, a \\ a, a, a <=> true", 7),
+    ("a <=> a, a, a, a, a, a, a, a, a", 7),
+    ("a(X) <=> X<1, X<2, X<3, X<4, X<5, X<6, X<7, X<8, X<9 | true", 7),
+    ("a(X234567890123456789012345678901xy) <=> true", 7),
+    ("a <=> X234567890123456789012345678901xy < 1 | true", 7),
+    ("x234567890123456789012345678901yz @ a <=> true", 7),
+    ("a, a, a, a \\ a <=> true", 7),
+    ("a \\ a, a, a, a <=> true", 7),
+    ("a(_234567890123456789012345678901xy) <=> true", 7),
+    ("a(X) <=> a(X234567890123456789012345678901xy)", 7),
+    ("a(X234567890123456789012345678901x) <=> a(X234567890123456789012345678901xy)", 7),
+)
+"""Clauses behind the declaration of `a/0` and `a/1`, and their faults. A clause with the least fault of all follows."""
+
+AFTER_SIXTY_FOUR = (
+    ("a0 <=> fail", 3),
+    ("a0 ==> true", 4),
+    ("b <=> true", 5),
+    ("a0 <=> b", 5),
+    (":- chr_constraint b/0, a0/0", 6),
+    (":- chr_constraint a0/0, b/0", 6),
+    (":- chr_constraint b/0", 7),
+    ("a0 <=> X < 1 | true", 7),
+    ("a0 <=> 1 < 9223372036854775808 | true", 7),
+    (":- chr_weight a0/0 = 0", 10),
+)
+"""Clauses behind 64 symbols and as many rules, and their faults."""
+
+SEVERAL_WEIGHT_CLAUSES = (
+    ("a/0 = 0", "refused 10: clause 2\n"),
+    ("a/0 = 0,0", "refused 10: clause 2\n"),
+    ("a/0 = 1,1000001", "refused 10: clause 2\n"),
+    ("a/0 = 0,1,2", "refused 3: clause 2\n"),
+    ("a/0 = 1,2. :- chr_weight a/1 = 1,2", "accepted: rules 0, cases 0\n"),
+    ("a/0 = 1. :- chr_weight a/0 = 1,0", "refused 10: clause 3\n"),
+    ("a/0 = 1,2. :- chr_weight a/0 = 1,9223372036854775808", "refused 9: clause 3\n"),
+    ("b/0 = 1,9223372036854775808", "refused 5: clause 2\n"),
+    ("a/2 = 1,2", "refused 5: clause 2\n"),
+)
+"""Weights of a program of `a/0` and `a/1`. Of several faults the least counts, and a symbol has one weight clause."""
+
+WEIGHTS_OF_A_COIN = (
+    ("1,0", "0,1", True),
+    ("0,2", "0,1", True),
+    ("1,2", "1,2", False),
+    ("1,2", "1,1", True),
+    ("0,9", "1,0", False),
+    ("2,0", "1,1000000", True),
+    ("1,1", "1,2", False),
+)
+"""The weights of a coin that is thrown and of its sides, and whether both rules lower."""
+
 ODD_BYTES = (
     (b"% \xff\x00\xc3. a\n:- chr_constraint a/0.", "accepted: rules 0, cases 0\n"),
     (b":- chr_constraint a/0.% \xff", "accepted: rules 0, cases 0\n"),
@@ -101,6 +198,9 @@ ACCEPTED = (
     (":- chr_constraint p/2. p(A,B) \\ p(C,D) <=> A < C | true.", "accepted: rules 1, cases 2404\n"),
     (":- chr_constraint a/1. a(X) \\ a(Y) <=> X =:= Y | true.", "accepted: rules 1, cases 5\n"),
     (":- chr_constraint coin/0, note/0. coin, coin <=> note.", "accepted: rules 1, cases 6\n"),
+    # rules without a common symbol
+    (":- chr_constraint a/0, b/0. a <=> true. b <=> true.", "accepted: rules 2, cases 2\n"),
+    (":- chr_constraint p/0, q/0. p \\ q, p <=> true.", "accepted: rules 1, cases 12\n"),
     # no number lies between 3 and 5 beside another
     (
         ":- chr_constraint p/2, q/1, r/1. :- chr_weight p/2 = 2."
@@ -315,6 +415,7 @@ OTHER_SHAPES = (
     '["summary"]',
     '["summary",1,1]',
     '["summary",1.0]',
+    '["summary",[]]',
     '["lacks",1]',
     '["lacks",1,{}]',
     '["lacks",1,[[1,[[2,1]]]]]',
@@ -323,7 +424,10 @@ OTHER_SHAPES = (
     '["lacks",1,[],0]',
     '["lacks",1,[],2.0]',
     '["lacks",1,[],"2"]',
+    '["lacks",1,[],3]',
+    '["lacks",1,[],2,1]',
     '["merge",1]',
+    '["merge",1,[],1]',
     '["merge",1,[],2]',
     '["merge",1,[2]]',
     '["merge",1,[2.0,[]]]',

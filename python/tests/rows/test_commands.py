@@ -61,7 +61,7 @@ ROWS = (
         """refused 21: one store comes to two ends
   rule 1: pair @ a(X), a(Y) <=> X < Y | b(X).
   rule 1, again: pair @ a(X'), a(Y') <=> X' < Y' | b(X').
-One atom stands for two heads:
+One fact is matched by two heads:
   head 2, `a(Y)`, of rule 1 and head 1, `a(X')`, of rule 1, again
 Values with which they disagree: X = 0, Y = 1, X' = 1, Y' = 2
 The store: a(0), a(1), a(2)

@@ -23,7 +23,7 @@ HANGING = (
     "What hangs on the lines before isn't looked at: 33, an id that stands for other atoms, and 34, too many atoms.\n"
 )
 COMMAND = '`["show",1]` or `["tell",1,[1,1],[["coin"]]]`'
-ARGUMENT = "an argument is a whole number of 64 bits"
+ARGUMENT = "argument 1 of `a` is a whole number of 64 bits"
 ATOMS = 'an operation has 1 to 64 atoms in an array, as `[["coin"],["path",1,2,7]]`'
 NUMBER = "this is no JSON number: whole numbers are written as 1 or -5, without `+` and without zeros in front"
 WORDS = '`"tell"`, `"show"`, `"sync"`, `"summary"`, `"lacks"` or `"merge"`'
@@ -168,7 +168,7 @@ ROWS: list[tuple[str, int, int, str, str]] = [
         '["tell",1,[1,1],[["path",1,"anna",2]]]',
         28,
         31,
-        f"{ARGUMENT}; this is a text",
+        "argument 2 of `path` is a whole number of 64 bits; this is a text",
         "give each name a number of its own, and write that",
     ),
     ('["tell",1,[1,1],[["a",9223372036854775808]]]', 23, 31, f"{ARGUMENT}; this is too large", ""),
@@ -283,6 +283,25 @@ class Rows(unittest.TestCase):
                 self.assertEqual(caret, " " * (INDENT + min(column - 1, MAX_SHOWN)) + "^")
                 self.assertEqual(rest[:-1], [f"    {advice}"] if advice else [])
                 self.assertEqual(f"{rest[-1]}\n", HANGING)
+
+    def test_names_of_columns(self) -> None:
+        """An argument has the name of its column, where the text names those of a symbol with as many arguments."""
+        named = PROGRAM.replace(b"% Offers\n", b"% chr_columns path(from, to, km), a(offer)\n")
+        whole = "is a whole number of 64 bits; this"
+        offer, path = "`a/1` (offer)", "`path/3` (from, to, km)"
+        rows = [
+            ('["tell",1,[1,1],[["path",1,"anna",2]]]', 28, 31, f"argument 2 (to) of `path` {whole}"),
+            ('["tell",1,[1,1],[["coin"],["a",2.5]]]', 32, 31, f"argument 1 (offer) of `a` {whole}"),
+            ('["merge",1,[2,[[1,[[1,[["path",1,2,[]]]]]]]]]', 36, 31, f"argument 3 (km) of `path` {whole}"),
+            ('["tell",1,[1,1],[["path",1,"anna"]]]', 28, 31, f"argument 2 of `path` {whole}"),
+            ('["tell",1,[1,1],[["pa\\u0074h",1,2,true]]]', 35, 31, f"argument 3 of `pa\\u0074h` {whole}"),
+            ('["tell",1,[1,1],[["path",1,2]]]', 19, 32, f"`path/2` is not declared; declared are {path}"),
+            ('["tell",1,[1,1],[["b"]]]', 19, 32, f"`b/0` is not declared; declared are {offer}, `coin/0`, {path}"),
+        ]  # fmt: skip
+        for line, column, number, words in rows:
+            with self.subTest(line):
+                told = run("explain", named + line.encode())[1].partition("Command lines: ")[2].splitlines()[1]
+                self.assertTrue(told.startswith(f"line {FIRST}, column {column}, refused {number}: {words}"), told)
 
     def test_lines_that_are_taken(self) -> None:
         taken = b'["show",1]\r\n\n \t\r\n["tell",1,[1,1],[["coin"]]]\n["tell",1,[1,1],[["a",1]]]\n'

@@ -1,4 +1,4 @@
-"""Whole runs: what `run` writes for an input, of which `check` writes the first line."""
+"""Whole runs: what `run` writes for an input, and `serve` too, of which `check` writes the first line."""
 
 import json
 import subprocess
@@ -31,6 +31,31 @@ def told(number: int, count: int) -> str:
     return tell(number, [["a"]] * count)
 
 
+NUMBERS = range(10, 74)
+SIGNS = ("<", "=<", ">", ">=", "=:=", "=\\=", "<", ">=")
+
+
+def full_rule(one: int, other: int) -> str:
+    """A rule of four heads with 24 variables, eight comparisons, and a body of eight atoms."""
+    places = iter(range(1, 25))
+    heads = [f"constraint_{it}({','.join(f'V{next(places)}' for _ in range(6))})" for it in (one, other, one, other)]
+    guard = ", ".join(f"-92233720368547757{one} {sign} V{place}" for place, sign in enumerate(SIGNS, 1))
+    body = ", ".join(
+        f"constraint_{other}(V{it},92233720368547757{one},-92233720368547757{other},V{it + 8},V{it + 16},{it})"
+        for it in range(1, 9)
+    )
+    return f"rule_with_parts_{one} @ {heads[0]}, {heads[1]} \\ {heads[2]}, {heads[3]} <=> {guard} | {body}.\n"
+
+
+def full_text() -> str:
+    """A text of 64 symbols with six arguments and a weight each, and of as many rules."""
+    declared = ", ".join(f"constraint_{number}/6" for number in NUMBERS)
+    weights = "".join(f":- chr_weight constraint_{number}/6 = {number},1000000.\n" for number in NUMBERS)
+    others = (*NUMBERS[1:], NUMBERS[0])
+    rules = "".join(full_rule(one, other) for one, other in zip(NUMBERS, others))
+    return f":- chr_constraint {declared}.\n{weights}{rules}"
+
+
 class Runs(unittest.TestCase):
     def written(self, words: Sequence[str], given: bytes) -> tuple[int, str]:
         """The status and the output of a command."""
@@ -41,7 +66,8 @@ class Runs(unittest.TestCase):
         given = given if isinstance(given, bytes) else given.encode()
         status = 0 if output.startswith("accepted: ") else 1
         with self.subTest(given=given[:200], output=output[:100]):
-            self.assertEqual(self.written(("run", *options), given), (status, output))
+            for command in ("run", "serve"):
+                self.assertEqual(self.written((command, *options), given), (status, output))
             self.assertEqual(self.written(("check",), given), (status, output.partition("\n")[0] + "\n"))
 
     def expect_all(self, table: Iterable[tuple[str | bytes, str]]) -> None:
@@ -71,6 +97,31 @@ class Programs(Runs):
         self.expect_all(rows.REFUSED_WEIGHTS)
         self.expect_all(((":- chr_constraint a/5.", NOTHING), (":- chr_constraint a/7.", "refused 7: clause 1\n")))
 
+    def test_faults_of_clauses(self) -> None:
+        self.expect_all(rows.FAULTS_OF_DIRECTIVES)
+        for clause, fault in rows.FAULTS_OF_RULES:
+            self.expect(f":- chr_constraint a/0, a/1. {clause}. \x07.", f"refused {fault}: clause 2\n")
+        for weights, output in rows.SEVERAL_WEIGHT_CLAUSES:
+            self.expect(f":- chr_constraint a/0, a/1. :- chr_weight {weights}.", output)
+
+    def test_sixty_four_symbols_and_rules(self) -> None:
+        """As many as there may be. Each two of these rules overlap once, and each with its own copy."""
+        symbols = ", ".join(f"a{number}/0" for number in range(64))
+        text = f":- chr_constraint {symbols}." + "a0 <=> true." * 64
+        for clause, fault in rows.AFTER_SIXTY_FOUR:
+            self.expect(f"{text}{clause}.", f"refused {fault}: clause 66\n")
+        rest = ":- use_module(library(chr)). :- chr_weight a63/0 = 2."
+        self.expect(text + rest, f"accepted: rules 64, cases {64 * 65 // 2}\n")
+
+    def test_the_fullest_text(self) -> None:
+        """As many parts as a program may have, in a text as long as one may be. The first rule takes two atoms away, of
+        the weights 10 and 11, and leaves eight of the second kind."""
+        text = full_text()
+        self.assertLess(65_000, len(text))
+        refused = "refused 20: rule 1; before 21,2000000; after 88,8000000\n"
+        self.expect(text.ljust(65_536), refused)
+        self.expect(text.ljust(65_537), "refused 2\n")
+
     def test_long_texts(self) -> None:
         """A text has at most 65,536 bytes, with the line feed before the line `---`."""
         self.expect_all((" " * spaces + rest, output) for spaces, rest, output in rows.LONG_TEXTS)
@@ -80,6 +131,16 @@ class Programs(Runs):
         self.expect_all(rows.NOT_LOWERED)
         for weights, rules, output in rows.NOT_LOWERED_BY_PAIRS:
             self.expect(f":- chr_constraint a/0, b/0, c/0. :- chr_weight {weights}. {rules}", output)
+
+    def test_weights_of_a_coin(self) -> None:
+        """The first number decides, and the second one where the first are equal."""
+        rules = "throw <=> head. throw <=> tail."
+        failing = "refused 21: rules 1 2; matching (1); store throw; left head; right tail\n"
+        for throw, side, lowers in rows.WEIGHTS_OF_A_COIN:
+            weights = ((name, side) for name in ("head", "tail"))
+            clauses = " ".join(f":- chr_weight {name}/0 = {it}." for name, it in (("throw", throw), *weights))
+            output = failing if lowers else f"refused 20: rule 1; before {throw}; after {side}\n"
+            self.expect(f":- chr_constraint throw/0, head/0, tail/0. {clauses} {rules}", output)
 
     def test_accepted(self) -> None:
         self.expect_all(rows.ACCEPTED)

@@ -123,6 +123,16 @@ class Devices(unittest.TestCase):
             process.stdin.flush()
             self.assertEqual(process.wait(SECONDS), FAULT)
 
+    def test_a_service_of_a_refused_program(self) -> None:
+        """It ends before its input does: with a clause that is refused, and with a text that is too long."""
+        for given, output in ((b"x\n---\n", b"refused 11: clause 1\n"), (b"%" * 80_000, b"refused 2\n")):
+            words = [program_path(), *WORDS[1]]
+            with subprocess.Popen(words, stdin=subprocess.PIPE, stdout=subprocess.PIPE, bufsize=0) as process:
+                assert process.stdin and process.stdout
+                process.stdin.write(given)
+                self.assertEqual(process.wait(SECONDS), 1)
+                self.assertEqual(process.stdout.read(), output)
+
     def test_inputs_byte_by_byte(self) -> None:
         for words in WORDS:
             with self.subTest(words=words):

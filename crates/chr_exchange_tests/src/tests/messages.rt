@@ -1,9 +1,6 @@
-//! Texts of messages, with what they mean, and what is written.
+//! Texts of messages, with what they mean.
 use chr_base::program::Program;
-use chr_exchange::{
-    MessageFault, delta_of, delta_text, delta_text_1, op_of, read_delta, read_summary, summary_of,
-    summary_text,
-};
+use chr_exchange::{MessageFault, delta_text_1, op_of, read_delta, read_summary, summary_text};
 use chr_ops::{AddFault, Op, OpId, OpSet};
 use serde_json::Value;
 use std::alloc::Global;
@@ -31,14 +28,12 @@ fn refused(rt: &impl Abort, alloc: Global, number: u8) -> String {
     String::from_str(alloc, text).expect(rt, "memory")
 }
 
-/// The operations of a set, as a delta of version 2 and of version 1.
+/// The operations of a set, as a delta of version 1.
 #[tactic(auto, using(chr_exchange::proofs::Sorting::lacking_different))]
-fn written(rt: &impl Abort, alloc: Global, program: &Program, set: &OpSet) -> (String, String) {
+fn written(rt: &impl Abort, alloc: Global, program: &Program, set: &OpSet) -> String {
     let nothing = OpSet::new(alloc).summary(alloc).expect(rt, "memory");
     let ops = set.lacks(alloc, &nothing).expect(rt, "memory");
-    let new = delta_text(alloc, program, &ops).expect(rt, "memory");
-    let old = delta_text_1(alloc, program, &ops).expect(rt, "memory");
-    (new, old)
+    delta_text_1(alloc, program, &ops).expect(rt, "memory")
 }
 
 /// The set of these operations as a text of version 1, or how two that clash are refused.
@@ -47,7 +42,7 @@ fn joined(rt: &impl Abort, alloc: Global, program: &Program, ops: &[Op]) -> Stri
     match set.join(alloc, ops) {
         Err(AddFault::Clash(_)) => refused(rt, alloc, 33),
         Err(_) => panic!(rt; "not joined"),
-        Ok(_) => written(rt, alloc, program, &set).1,
+        Ok(_) => written(rt, alloc, program, &set),
     }
 }
 
@@ -57,12 +52,6 @@ fn delta_answer(rt: &impl Abort, alloc: Global, program: &Program, text: &[u8]) 
         Ok(ops) => joined(rt, alloc, program, &ops),
         Err(fault) => refused(rt, alloc, fault.number()),
     }
-}
-
-/// The text of the summary of a set.
-fn summary_of_set(rt: &impl Abort, alloc: Global, set: &OpSet) -> String {
-    let summary = set.summary(alloc).expect(rt, "memory");
-    summary_text(alloc, &summary).expect(rt, "memory")
 }
 
 /// The summary that a text gives, as its own text, or how it is refused.
@@ -126,16 +115,6 @@ const SUMMARIES: [(&str, &str); 15] = [
 #[test]
 fn summaries_are_read_in_any_order(rt: HostRuntime) {
     expect_summaries(&rt, rt.alloc(), &SUMMARIES);
-}
-
-/// Whether the text is no JSON value, and so no summary.
-fn is_no_summary(alloc: Global, text: &[u8]) -> bool {
-    read_summary(alloc, text).err() == Some(MessageFault::BadJson)
-}
-
-/// Whether the text is no JSON value, and so no delta.
-fn is_no_delta(alloc: Global, program: &Program, text: &[u8]) -> bool {
-    read_delta(alloc, program, text).err() == Some(MessageFault::BadJson)
 }
 
 /// Deltas of version 1, and the texts of version 1 that are written of their operations, or their refusals.
@@ -231,102 +210,9 @@ fn deltas_of_both_versions_are_read(rt: HostRuntime) {
     expect_deltas(&rt, rt.alloc(), &DELTAS_2);
 }
 
-const SUMMARY: &str = "[[1,[[4,4]]],[2,[[7,7]]]]";
-
-const DELTA: &str = "[2,[[1,[[4,[[\"min\",2]]]]],[2,[[7,[[\"min\",8],[\"min\",8]]]]]]]";
-
-const DELTA_1: &str = "[[[1,4],[[\"min\",2]]],[[2,7],[[\"min\",8],[\"min\",8]]]]";
-
-/// The set that was told two operations: 1/4 `min(2)`, and 2/7 `min(8)` twice.
-fn two_operations(rt: &impl Abort, alloc: Global, program: &Program) -> OpSet {
-    let text = b"[[[2,7],[[\"min\",8],[\"min\",8]]],[[1,4],[[\"min\",2]]]]";
-    let ops = read_delta(alloc, program, text.as_slice()).expect(rt, "read");
-    let mut set = OpSet::new(alloc);
-    assert!(rt; set.join(alloc, &ops) == Ok(2));
-    set
-}
-
-/// The deltas of version 2 and of version 1 that are written of the set are these.
-fn expect_written(
-    rt: &impl Abort,
-    alloc: Global,
-    program: &Program,
-    set: &OpSet,
-    expected: (&str, &str),
-) {
-    let (new, old) = written(rt, alloc, program, set);
-    expect_found(rt, "version 2", new.as_str(), expected.0);
-    expect_found(rt, "version 1", old.as_str(), expected.1);
-}
-
-/// The summary that is written of the set is this.
-fn expect_summary(rt: &impl Abort, alloc: Global, set: &OpSet, expected: &str) {
-    let found = summary_of_set(rt, alloc, set);
-    expect_found(rt, "the summary", found.as_str(), expected);
-}
-
-#[test]
-fn messages_are_written(rt: HostRuntime) {
-    let alloc = rt.alloc();
-    let program = four_symbols(&rt, alloc);
-    let set = two_operations(&rt, alloc, &program);
-    expect_summary(&rt, alloc, &set, SUMMARY);
-    expect_written(&rt, alloc, &program, &set, (DELTA, DELTA_1));
-    let empty = OpSet::new(alloc);
-    expect_summary(&rt, alloc, &empty, "[]");
-    expect_written(&rt, alloc, &program, &empty, ("[2,[]]", "[]"));
-}
-
-/// No proper beginning of the text is a delta.
-fn expect_no_beginning_is_read(rt: &impl Abort, alloc: Global, program: &Program, text: &str) {
-    for i in 0..text.len() {
-        assert!(rt;
-            is_no_delta(alloc, program, &text.as_bytes()[..i]),
-            "at {i}"
-        );
-    }
-}
-
-#[test]
-fn a_beginning_of_a_summary_is_no_value(rt: HostRuntime) {
-    let alloc = rt.alloc();
-    for i in 0..SUMMARY.len() {
-        assert!(rt; is_no_summary(alloc, &SUMMARY.as_bytes()[..i]), "at {i}");
-    }
-}
-
-#[test]
-fn a_beginning_of_a_delta_is_no_value(rt: HostRuntime) {
-    let alloc = rt.alloc();
-    let program = four_symbols(&rt, alloc);
-    expect_no_beginning_is_read(&rt, alloc, &program, DELTA);
-    expect_no_beginning_is_read(&rt, alloc, &program, DELTA_1);
-}
-
 /// The JSON value of a text.
 fn value(rt: &impl Abort, alloc: Global, text: &str) -> Value {
     Value::from_str(alloc, text).expect(rt, "a value")
-}
-
-/// How many ranges the summary of a value has.
-fn ranges_in(rt: &impl Abort, alloc: Global, text: &str) -> usize {
-    let summary = summary_of(alloc, &value(rt, alloc, text)).expect(rt, "a summary");
-    summary.ranges().len()
-}
-
-/// How many operations the delta of a value has.
-fn operations_in(rt: &impl Abort, alloc: Global, program: &Program, text: &str) -> usize {
-    delta_of(alloc, program, &value(rt, alloc, text))
-        .expect(rt, "a delta")
-        .len()
-}
-
-#[test]
-fn values_of_messages_are_read(rt: HostRuntime) {
-    let alloc = rt.alloc();
-    let program = four_symbols(&rt, alloc);
-    assert!(rt; ranges_in(&rt, alloc, SUMMARY) == 2);
-    assert!(rt; operations_in(&rt, alloc, &program, DELTA) == 2);
 }
 
 /// The operation of the values of an id and atoms, or why there is none.

@@ -1,5 +1,4 @@
 //! Operations, sets of them and summaries, in the public words of `chr_ops`.
-mod exchange;
 mod news;
 mod orders;
 mod sets;
@@ -22,6 +21,13 @@ fn atom(symbol: u16) -> Atom {
         symbol: SymbolId(symbol),
         ..Atom::default()
     }
+}
+
+/// The next of some numbers that jump about.
+fn jumped(number: u64) -> u64 {
+    number
+        .wrapping_mul(6_364_136_223_846_793_005)
+        .wrapping_add(1_442_695_040_888_963_407)
 }
 
 fn put_in(rt: &impl Abort, bag: &mut Bag, symbol: u16) {

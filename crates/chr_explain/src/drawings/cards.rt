@@ -2,9 +2,8 @@
 
 use chr_base::bag::Bag;
 use chr_base::derivation::{Derivation, Step};
-use chr_base::text::store_text;
 use chr_diagnosis::{NamedProgram, Peak, told_rule};
-use chr_faults::Names;
+use chr_faults::{Names, push_number};
 use std::alloc::{AllocError, Global};
 
 /// A step, and the store that it leaves.
@@ -17,18 +16,28 @@ pub(crate) struct Card {
 }
 
 /// A store, and the steps of both ways from it.
-#[derive(Drop)]
 pub(crate) struct Cards {
     pub start: String,
     pub left: Vec<Card>,
     pub right: Vec<Card>,
 }
 
+/// What is derived would be proved again at each end of a function that lets them go.
+impl Drop for Cards {
+    fn drop(self) {
+        let Cards {
+            start: _start,
+            left: _left,
+            right: _right,
+        } = self;
+    }
+}
+
 /// What a step does.
 fn step_text(alloc: Global, source: NamedProgram<'_>, step: &Step) -> Result<String, AllocError> {
     let mut text = String::new(alloc);
     if let Some(rule) = told_rule(source, step.rule as usize) {
-        rule.push_step(alloc, &mut text, &step.heads)?;
+        rule.push_step(&mut text, &step.heads)?;
     }
     Ok(text)
 }
@@ -44,7 +53,7 @@ fn way_cards(
     let mut cards = Vec::new(alloc);
     for (i, (step, store)) in way.steps.iter().zip(stores.iter()).enumerate() {
         let step = step_text(alloc, source, step)?;
-        let store = store_text(alloc, source.program, store)?;
+        let store = source.store_text(alloc, store)?;
         let is_end = usize::saturating_add(i, 1) == way.steps.len();
         cards.push(Card {
             step,
@@ -54,8 +63,9 @@ fn way_cards(
     }
     let more = way.steps.len().saturating_sub(stores.len());
     if 0 < more {
-        let step = format!(in alloc; "{more} steps more")?;
-        let store = store_text(alloc, source.program, end)?;
+        let mut step = String::new(alloc);
+        push_number(&mut step, "", more as u64, " steps more")?;
+        let store = source.store_text(alloc, end)?;
         cards.push(Card {
             step,
             store,
@@ -71,7 +81,7 @@ pub(crate) fn cards_of(alloc: Global, names: &Names, peak: &Peak) -> Result<Card
     let source = NamedProgram { program, names };
     let ways = peak.shown();
     let failure = &ways.failure;
-    let start = store_text(alloc, program, &failure.left.start)?;
+    let start = source.store_text(alloc, &failure.left.start)?;
     let left = way_cards(alloc, source, &failure.left, &ways.left, &failure.left_end)?;
     let right = way_cards(
         alloc,

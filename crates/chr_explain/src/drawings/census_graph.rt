@@ -5,10 +5,9 @@ use crate::drawings::groups::{Group, groups_of, place_of_rule};
 use crate::drawings::limits::MAX_TOLD_COPIES;
 use crate::sentences::{ToldPair, pairs_of, push_numbers};
 use chr_diagnosis::{Census, NamedProgram, told_rule};
-use chr_faults::Names;
+use chr_faults::{Names, push_number};
 use chr_join::Coverage;
 use std::alloc::{AllocError, Global};
-use std::fmt::Write;
 
 /// Two groups of copies, by their places, with what their pairs of rules have together.
 #[derive(Clone, Copy)]
@@ -24,10 +23,11 @@ fn push_copies(out: &mut String, group: &Group) -> Result<(), AllocError> {
     if copies == 0 {
         return Ok(());
     }
-    write!(out, "and {copies} more like it: rules")?;
+    push_number(out, "and ", copies as u64, " more like it: rules")?;
     for (i, rule) in group.rules.iter().enumerate() {
         if 0 < i && i <= MAX_TOLD_COPIES {
-            write!(out, "{} {rule}", if i == 1 { "" } else { "," })?;
+            let before = if i == 1 { " " } else { ", " };
+            push_number(out, before, u64::from(*rule), "")?;
         }
     }
     out.push_str(if MAX_TOLD_COPIES < copies { ", .." } else { "" })
@@ -36,7 +36,8 @@ fn push_copies(out: &mut String, group: &Group) -> Result<(), AllocError> {
 /// The node of a group: its first rule.
 fn node_of(alloc: Global, source: NamedProgram<'_>, group: &Group) -> Result<Node, AllocError> {
     let number = group.first();
-    let name = format!(in alloc; "rule{number}")?;
+    let mut name = String::new(alloc);
+    push_number(&mut name, "rule", u64::from(number), "")?;
     let mut text = String::new(alloc);
     if let Some(rule) = told_rule(source, number as usize) {
         rule.push_clause(alloc, &mut text)?;
@@ -84,7 +85,8 @@ fn edge_of(alloc: Global, link: &Link, coverage: Coverage) -> Result<Edge, Alloc
         Coverage::Joint => link.pair.cases,
         Coverage::Sorted => link.pair.overlaps,
     };
-    let mark = format!(in alloc; "{number}")?;
+    let mut mark = String::new(alloc);
+    push_number(&mut mark, "", number as u64, "")?;
     Ok(Edge {
         from: link.from,
         to: link.to,

@@ -4,9 +4,8 @@ use crate::drawings::difference::changed_part;
 use crate::drawings::html::{push_html, push_html_char};
 use crate::sentences::Told;
 use chr_diagnosis::Proposal;
-use chr_faults::Span;
+use chr_faults::{Span, push_number};
 use std::alloc::{AllocError, Global};
-use std::fmt::Write;
 
 /// Adds a paragraph.
 fn push_paragraph(out: &mut String, sentence: &str) -> Result<(), AllocError> {
@@ -60,11 +59,8 @@ fn push_change(
     proposal: &Proposal,
     kept: &[String],
 ) -> Result<(), AllocError> {
-    write!(
-        out,
-        "<h3>Accepted with this in place of rule {}</h3>\n",
-        proposal.rule
-    )?;
+    let before = "<h3>Accepted with this in place of rule ";
+    push_number(out, before, proposal.rule as u64, "</h3>\n")?;
     let before = text.get(proposal.from..proposal.to).unwrap_or(&[]);
     out.push_str("<pre class=\"change\" tabindex=\"0\">")?;
     push_rules(alloc, out, before, proposal.rules.as_str())?;

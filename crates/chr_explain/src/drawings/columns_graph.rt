@@ -1,17 +1,18 @@
 //! The columns of an overlap with too many cases, as nodes and edges.
 
 use crate::drawings::graph::{Edge, Graph, Meaning, Node};
-use crate::sentences::{columns_text, has_head, push_symbol};
+use crate::sentences::{columns_text, has_head, push_column, push_symbol};
 use chr_base::atom::SymbolId;
 use chr_base::program::Program;
 use chr_base::rule::Rule;
 use chr_base::term::{Cmp, Comparison, Pattern, Term};
-use chr_diagnosis::sign;
+use chr_diagnosis::{NamedProgram, sign};
+use chr_faults::{Names, push_number};
 use chr_overlaps::Overlap;
 use chr_sorting::{Sorting, finest_sorts};
 use std::alloc::{AllocError, Global};
 
-/// A column of a symbol, counted from 1.
+/// A column of a symbol, counted from 0.
 #[derive(Clone, Copy, Debug, PartialEq, Eq)]
 struct Column {
     symbol: SymbolId,
@@ -32,7 +33,7 @@ fn column_in(pattern: &Pattern, term: Term) -> Option<Column> {
         if *other == term {
             return Some(Column {
                 symbol: pattern.symbol,
-                number: usize::saturating_add(i, 1),
+                number: i,
             });
         }
     }
@@ -104,14 +105,15 @@ fn symbols_of(
 /// The node of a symbol: which of its columns are compared.
 fn node_of(
     alloc: Global,
-    program: &Program,
+    source: NamedProgram<'_>,
     sorting: &Sorting,
     symbol: SymbolId,
 ) -> Result<Node, AllocError> {
-    let name = format!(in alloc; "symbol{}", symbol.0)?;
+    let mut name = String::new(alloc);
+    push_number(&mut name, "symbol", u64::from(symbol.0), "")?;
     let mut text = String::new(alloc);
-    push_symbol(&mut text, program, symbol)?;
-    let columns = columns_text(alloc, program, sorting, symbol)?;
+    push_symbol(&mut text, source.program, symbol)?;
+    let columns = columns_text(alloc, source, sorting, symbol)?;
     let more = match columns.as_str().strip_prefix("; ") {
         Some(columns) => String::from_str(alloc, columns)?,
         None => String::from_str(alloc, "no column is compared")?,
@@ -157,10 +159,36 @@ fn place_of(symbols: &[SymbolId], symbol: SymbolId) -> usize {
     symbols.iter().take_while(|other| **other != symbol).count()
 }
 
+/// What an edge says of a comparison of two columns.
+fn compared_text(
+    alloc: Global,
+    source: NamedProgram<'_>,
+    compared: &Compared,
+) -> Result<String, AllocError> {
+    let mut text = String::new(alloc);
+    push_column(
+        &mut text,
+        source,
+        compared.left.symbol,
+        compared.left.number,
+    )?;
+    text.push_str(" ")?;
+    text.push_str(sign(compared.cmp))?;
+    text.push_str(" ")?;
+    push_column(
+        &mut text,
+        source,
+        compared.right.symbol,
+        compared.right.number,
+    )?;
+    Ok(text)
+}
+
 /// Adds a comparison of two columns, where their symbols have nodes.
 fn push_edge(
     alloc: Global,
     edges: &mut Vec<Edge>,
+    source: NamedProgram<'_>,
     symbols: &[SymbolId],
     compared: &Compared,
 ) -> Result<(), AllocError> {
@@ -171,23 +199,23 @@ fn push_edge(
     if symbols.len() <= from || symbols.len() <= to {
         return Ok(());
     }
-    let text = format!(in alloc; "{} {} {}", left.number, sign(compared.cmp), right.number)?;
+    let text = compared_text(alloc, source, compared)?;
     add_edge(alloc, edges, from, to, text.as_str())
 }
 
 /// The edges of all columns that rules compare, between these symbols.
 fn edges_of(
     alloc: Global,
-    program: &Program,
+    source: NamedProgram<'_>,
     symbols: &[SymbolId],
 ) -> Result<Vec<Edge>, AllocError> {
     let mut compared = Vec::new(alloc);
-    for rule in program.rules() {
+    for rule in source.program.rules() {
         push_compared(&mut compared, rule)?;
     }
     let mut edges = Vec::new(alloc);
     for one in &compared {
-        push_edge(alloc, &mut edges, symbols, one)?;
+        push_edge(alloc, &mut edges, source, symbols, one)?;
     }
     Ok(edges)
 }
@@ -196,9 +224,11 @@ fn edges_of(
 /// such rules.
 pub(crate) fn columns_graph(
     alloc: Global,
+    names: &Names,
     program: &Program,
     overlap: &Overlap,
 ) -> Result<Option<Graph>, AllocError> {
+    let source = NamedProgram { program, names };
     let symbols = symbols_of(alloc, program, overlap)?;
     if symbols.is_empty() {
         return Ok(None);
@@ -206,9 +236,9 @@ pub(crate) fn columns_graph(
     let sorting = finest_sorts(alloc, program)?;
     let mut nodes = Vec::new(alloc);
     for symbol in &symbols {
-        nodes.push(node_of(alloc, program, &sorting, *symbol)?)?;
+        nodes.push(node_of(alloc, source, &sorting, *symbol)?)?;
     }
-    let edges = edges_of(alloc, program, &symbols)?;
+    let edges = edges_of(alloc, source, &symbols)?;
     Ok(Some(Graph {
         meaning: Meaning::Columns,
         nodes,

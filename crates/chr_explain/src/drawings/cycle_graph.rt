@@ -7,7 +7,7 @@ use chr_base::program::Program;
 use chr_base::rule::Rule;
 use chr_base::term::Pattern;
 use chr_diagnosis::{NamedProgram, ToldRule, told_rule};
-use chr_faults::Names;
+use chr_faults::{Names, push_number};
 use chr_weighing::Cycle;
 use std::alloc::{AllocError, Global};
 
@@ -40,14 +40,16 @@ fn applied_in<'a>(
 
 /// The node of a rule.
 fn node_of(alloc: Global, applied: &Applied<'_>) -> Result<Node, AllocError> {
-    let name = format!(in alloc; "rule{}", applied.rule.number)?;
+    let mut name = String::new(alloc);
+    push_number(&mut name, "rule", applied.rule.number as u64, "")?;
     let mut text = String::new(alloc);
     applied.rule.push_clause(alloc, &mut text)?;
-    let more = if applied.times == 1 {
-        String::from_str(alloc, "once")?
+    let mut more = String::new(alloc);
+    if applied.times == 1 {
+        more.push_str("once")?;
     } else {
-        format!(in alloc; "{} times", applied.times)?
-    };
+        push_number(&mut more, "", applied.times, " times")?;
+    }
     Ok(Node { name, text, more })
 }
 

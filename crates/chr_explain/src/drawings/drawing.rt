@@ -34,8 +34,7 @@ fn push_others(
     text: &[u8],
     judged: &Judged,
 ) -> Result<(), AllocError> {
-    let names = Names::of(alloc, text)?;
-    let Some(graph) = graph_of(alloc, &names, &judged.diagnosis)? else {
+    let Some(graph) = graph_of(alloc, text, &judged.diagnosis)? else {
         return push_told(alloc, out, text, judged);
     };
     if !graph.has_words {
@@ -54,7 +53,7 @@ fn push_drawing(
 ) -> Result<(), AllocError> {
     match &judged.diagnosis {
         Diagnosis::Fails(peak) => {
-            let names = Names::of(alloc, text)?;
+            let names = Names::of(alloc, text, peak.weighed.program())?;
             push_peak_drawing(alloc, out, &names, peak)
         }
         _ => push_others(alloc, out, text, judged),

@@ -1,7 +1,6 @@
 //! Nodes and edges that are drawn of a program: by Graphviz, or on a page.
 
 /// A node.
-#[derive(Drop)]
 pub(crate) struct Node {
     /// Its name in the language of Graphviz.
     pub name: String,
@@ -12,7 +11,6 @@ pub(crate) struct Node {
 }
 
 /// An edge.
-#[derive(Drop)]
 pub(crate) struct Edge {
     /// The places of its nodes, counted from 0.
     pub from: usize,
@@ -35,11 +33,43 @@ pub(crate) enum Meaning {
 }
 
 /// What is drawn.
-#[derive(Drop)]
 pub(crate) struct Graph {
     pub meaning: Meaning,
     pub nodes: Vec<Node>,
     pub edges: Vec<Edge>,
     /// Whether what is told of the program is to stand below, since the nodes and edges don't say all of it.
     pub has_words: bool,
+}
+
+// What is derived would be proved again at each end of a function that lets them go.
+impl Drop for Node {
+    fn drop(self) {
+        let Node {
+            name: _name,
+            text: _text,
+            more: _more,
+        } = self;
+    }
+}
+
+impl Drop for Edge {
+    fn drop(self) {
+        let Edge {
+            from: _from,
+            to: _to,
+            text: _text,
+            mark: _mark,
+        } = self;
+    }
+}
+
+impl Drop for Graph {
+    fn drop(self) {
+        let Graph {
+            meaning: _meaning,
+            nodes: _nodes,
+            edges: _edges,
+            has_words: _has_words,
+        } = self;
+    }
 }

@@ -2,8 +2,8 @@
 
 use crate::drawings::graph::{Edge, Graph, Meaning, Node};
 use crate::drawings::label::{Align, push_label};
+use chr_faults::push_text;
 use std::alloc::AllocError;
-use std::fmt::Write;
 
 /// How a drawing begins. Rules that overlap stand in one column, whatever their edges are, so that many of them stay a
 /// page.
@@ -41,7 +41,7 @@ fn push_node(out: &mut String, node: &Node) -> Result<(), AllocError> {
         text.push_str("\n")?;
         text.push_str(node.more.as_str())?;
     }
-    write!(out, "  {} ", node.name.as_str())?;
+    push_text(out, "  ", node.name.as_str(), " ")?;
     push_label(out, text.as_str(), Align::Middle)?;
     out.push_str(";\n")
 }
@@ -51,13 +51,9 @@ fn push_edge(out: &mut String, graph: &Graph, edge: &Edge) -> Result<(), AllocEr
     let (Some(from), Some(to)) = (graph.nodes.get(edge.from), graph.nodes.get(edge.to)) else {
         return Ok(());
     };
-    write!(
-        out,
-        "  {} {} {} ",
-        from.name.as_str(),
-        joint_of(graph.meaning),
-        to.name.as_str()
-    )?;
+    push_text(out, "  ", from.name.as_str(), " ")?;
+    out.push_str(joint_of(graph.meaning))?;
+    push_text(out, " ", to.name.as_str(), " ")?;
     push_label(out, edge.text.as_str(), Align::Middle)?;
     out.push_str(";\n")
 }
@@ -71,7 +67,7 @@ fn push_words(out: &mut String, graph: &Graph, words: &str) -> Result<(), AllocE
     push_label(out, words, Align::Left)?;
     out.push_str(" [fontname=monospace];\n")?;
     match graph.nodes.first() {
-        Some(first) => Ok(write!(out, "  {} -> text [style=invis];\n", first.name.as_str())?),
+        Some(first) => push_text(out, "  ", first.name.as_str(), " -> text [style=invis];\n"),
         None => Ok(()),
     }
 }

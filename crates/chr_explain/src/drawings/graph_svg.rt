@@ -6,8 +6,8 @@ use crate::drawings::limits::MAX_MARKED_EDGES;
 use crate::drawings::svg::{
     CHARACTER, Frame, MARGIN, push_frame, push_svg, push_svg_text, width_of,
 };
+use chr_faults::push_number;
 use std::alloc::{AllocError, Global};
-use std::fmt::Write;
 
 /// How high a row is.
 const ROW: usize = 24;
@@ -233,6 +233,23 @@ fn push_title(out: &mut String, graph: &Graph, edge: &Edge) -> Result<(), AllocE
     out.push_str("</title>")
 }
 
+/// Adds a point of a path behind this.
+fn push_point(out: &mut String, before: &str, x: usize, y: usize) -> Result<(), AllocError> {
+    push_number(out, before, x as u64, " ")?;
+    push_number(out, "", y as u64, "")
+}
+
+/// Adds the curve of an edge.
+fn push_curve(out: &mut String, layout: Layout, arc: &Arc<'_>) -> Result<(), AllocError> {
+    let x = layout.x;
+    let far = x.saturating_add(arc.reach);
+    push_point(out, "<path class=\"edge\" d=\"M", x, arc.from)?;
+    push_point(out, " C", far, arc.from)?;
+    push_point(out, " ", far, arc.to)?;
+    push_point(out, " ", x, arc.to)?;
+    out.push_str("\"/>\n")
+}
+
 /// Adds an edge.
 fn push_edge(
     out: &mut String,
@@ -240,21 +257,12 @@ fn push_edge(
     graph: &Graph,
     arc: &Arc<'_>,
 ) -> Result<(), AllocError> {
-    let x = layout.x;
-    let far = x.saturating_add(arc.reach);
     out.push_str("<g>")?;
     push_title(out, graph, arc.edge)?;
-    write!(
-        out,
-        "<path class=\"edge\" d=\"M{x} {} C{far} {} {far} {} {x} {}\"/>\n",
-        arc.from, arc.from, arc.to, arc.to
-    )?;
+    push_curve(out, layout, arc)?;
     if graph.meaning == Meaning::Cycle {
-        write!(
-            out,
-            "<path class=\"tip\" d=\"M{x} {} l9 -4 v8 z\"/>\n",
-            arc.to
-        )?;
+        push_point(out, "<path class=\"tip\" d=\"M", layout.x, arc.to)?;
+        out.push_str(" l9 -4 v8 z\"/>\n")?;
     }
     if !arc.mark.is_empty() {
         push_svg_text(out, arc.mark_x, arc.mark_y, "mark", arc.mark)?;
@@ -282,7 +290,9 @@ pub(crate) fn push_graph_svg(
     let height = rows
         .saturating_mul(ROW)
         .saturating_add(MARGIN.saturating_mul(2));
-    let label = format!(in alloc; "{rows} {}", subject_of(graph.meaning))?;
+    let mut label = String::new(alloc);
+    push_number(&mut label, "", rows as u64, " ")?;
+    label.push_str(subject_of(graph.meaning))?;
     let arcs = arcs_of(alloc, layout, graph)?;
     push_svg(out, width_in(layout, &arcs), height, label.as_str())?;
     for (place, node) in graph.nodes.iter().enumerate() {

@@ -6,8 +6,8 @@ use chr_base::program::Program;
 use chr_base::rule::Rule;
 use chr_base::term::{Comparison, Pattern, Term};
 use chr_diagnosis::sign;
+use chr_faults::push_number;
 use std::alloc::{AllocError, Global};
-use std::fmt::Write;
 
 /// Rules that are copies of one another.
 #[derive(Drop)]
@@ -48,7 +48,7 @@ fn number_of(met: &mut Vec<SymbolId>, symbol: SymbolId) -> Result<usize, AllocEr
 /// Adds a term: of a constant only that it is one.
 fn push_term(out: &mut String, term: Term) -> Result<(), AllocError> {
     match term {
-        Term::Variable(variable) => Ok(write!(out, " V{variable}")?),
+        Term::Variable(variable) => push_number(out, " V", u64::from(variable), ""),
         Term::Constant(_) => out.push_str(" #"),
     }
 }
@@ -61,7 +61,7 @@ fn push_patterns(
 ) -> Result<(), AllocError> {
     for pattern in patterns {
         let number = number_of(met, pattern.symbol)?;
-        write!(out, " s{number}")?;
+        push_number(out, " s", number as u64, "")?;
         for term in pattern.args.iter() {
             push_term(out, *term)?;
         }
@@ -73,7 +73,8 @@ fn push_patterns(
 fn push_comparisons(out: &mut String, guard: &[Comparison]) -> Result<(), AllocError> {
     for comparison in guard {
         push_term(out, comparison.left)?;
-        write!(out, " {}", sign(comparison.cmp))?;
+        out.push_str(" ")?;
+        out.push_str(sign(comparison.cmp))?;
         push_term(out, comparison.right)?;
     }
     out.push_str(";")

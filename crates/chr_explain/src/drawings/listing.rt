@@ -1,8 +1,9 @@
 //! The text of a program on a page, with marks at its faulty places.
 
 use crate::drawings::html::{push_html, push_html_char};
+use crate::sentences::Told;
 use chr_diagnosis::Diagnosis;
-use chr_faults::{Note, Span, TextFaults, bad_spans, rule_span, shown};
+use chr_faults::{Span, TextFaults, bad_spans, rule_span, shown};
 use chr_overlaps::Overlap;
 use std::alloc::{AllocError, Global};
 
@@ -63,28 +64,38 @@ fn push_turn(out: &mut String, was_in: bool, is_in: bool) -> Result<(), AllocErr
     })
 }
 
-/// Adds what is told of a bad clause.
-fn push_note(out: &mut String, note: &Note) -> Result<(), AllocError> {
+/// Adds what is told of a place: what is wrong, and what would be right, where that is told.
+fn push_note(out: &mut String, message: &str, remedy: &str) -> Result<(), AllocError> {
     out.push_str("<em>")?;
-    push_html(out, note.message.as_str())?;
-    out.push_str("<br>")?;
-    push_html(out, note.remedy.as_str())?;
+    push_html(out, message)?;
+    out.push_str(if remedy.is_empty() { "" } else { "<br>" })?;
+    push_html(out, remedy)?;
     out.push_str("</em>")
 }
 
-/// Adds what is told of the line of this number.
-fn push_notes(
+/// Adds what is told of comments in the line of this number that name columns as the program has none.
+fn push_misnamed(
     out: &mut String,
     text: &[u8],
-    notes: &[Note],
+    told: &Told,
     line: usize,
 ) -> Result<(), AllocError> {
-    for note in notes {
-        if note.place(text).line == line {
-            push_note(out, note)?;
+    for fault in &told.misnamed {
+        if fault.place(text).line == line {
+            push_note(out, fault.message.as_str(), "")?;
         }
     }
     Ok(())
+}
+
+/// Adds what is told of the line of this number.
+fn push_notes(out: &mut String, text: &[u8], told: &Told, line: usize) -> Result<(), AllocError> {
+    for note in &told.notes {
+        if note.place(text).line == line {
+            push_note(out, note.message.as_str(), note.remedy.as_str())?;
+        }
+    }
+    push_misnamed(out, text, told, line)
 }
 
 /// Adds the text with marks at these places. Each line is an element, so that it gets its number, and has what is told
@@ -93,7 +104,7 @@ fn push_marked(
     out: &mut String,
     text: &[u8],
     spans: &[Span],
-    notes: &[Note],
+    told: &Told,
 ) -> Result<(), AllocError> {
     let mut was_in = false;
     let mut line: usize = 1;
@@ -102,7 +113,7 @@ fn push_marked(
         push_turn(out, was_in, is_in)?;
         if *byte == b'\n' {
             out.push_str("</span>\n")?;
-            push_notes(out, text, notes, line)?;
+            push_notes(out, text, told, line)?;
             out.push_str("<span class=\"line\">")?;
             line = line.saturating_add(1);
         } else {
@@ -111,7 +122,7 @@ fn push_marked(
         was_in = is_in;
     }
     push_turn(out, was_in, false)?;
-    push_notes(out, text, notes, line)
+    push_notes(out, text, told, line)
 }
 
 /// Adds the text of a program with marks at its faulty places, and below each line what is told of it.
@@ -120,11 +131,11 @@ pub(crate) fn push_listing(
     out: &mut String,
     text: &[u8],
     diagnosis: &Diagnosis,
-    notes: &[Note],
+    told: &Told,
 ) -> Result<(), AllocError> {
     let spans = spans_of(alloc, text, diagnosis)?;
     out.push_str("<section>\n<h2>The program</h2>\n")?;
     out.push_str("<pre class=\"listing\" tabindex=\"0\"><span class=\"line\">")?;
-    push_marked(out, text, &spans, notes)?;
+    push_marked(out, text, &spans, told)?;
     out.push_str("</span></pre>\n</section>\n")
 }

@@ -11,10 +11,9 @@ use crate::drawings::listing::push_listing;
 use crate::drawings::style::STYLE;
 use crate::sentences::Told;
 use chr_diagnosis::{Diagnosis, Peak, Proposal};
-use chr_faults::{Names, TextFaults};
+use chr_faults::{Names, TextFaults, push_number};
 use chr_read::Fault;
 use std::alloc::{AllocError, Global};
-use std::fmt::Write;
 
 /// The number of the first fault of a text that is no program.
 fn first_fault(faults: &TextFaults) -> usize {
@@ -30,7 +29,7 @@ fn first_fault(faults: &TextFaults) -> usize {
 /// Adds the verdict in a word or two.
 fn push_verdict(out: &mut String, diagnosis: &Diagnosis) -> Result<(), AllocError> {
     match diagnosis {
-        Diagnosis::Text(faults) => Ok(write!(out, "refused {}", first_fault(faults))?),
+        Diagnosis::Text(faults) => push_number(out, "refused ", first_fault(faults) as u64, ""),
         Diagnosis::NotLowered(_) => out.push_str("refused 20"),
         Diagnosis::Fails(_) => out.push_str("refused 21"),
         Diagnosis::TooManyCombinations(_) => out.push_str("refused 22"),
@@ -104,7 +103,7 @@ fn push_peak(
     proposals: &[Proposal],
     told: &Told,
 ) -> Result<(), AllocError> {
-    let names = Names::of(alloc, text)?;
+    let names = Names::of(alloc, text, peak.weighed.program())?;
     let ways = cards_of(alloc, &names, peak)?;
     push_case(out, &ways)?;
     push_changes(alloc, out, text, proposals, told)
@@ -117,8 +116,7 @@ fn push_pictures(
     text: &[u8],
     diagnosis: &Diagnosis,
 ) -> Result<(), AllocError> {
-    let names = Names::of(alloc, text)?;
-    let Some(graph) = graph_of(alloc, &names, diagnosis)? else {
+    let Some(graph) = graph_of(alloc, text, diagnosis)? else {
         return Ok(());
     };
     if graph.nodes.is_empty() {
@@ -152,7 +150,7 @@ pub(crate) fn page_text(
     let words = told.text.as_str();
     let mut out = String::new(alloc);
     push_head(&mut out, diagnosis, words)?;
-    push_listing(alloc, &mut out, text, diagnosis, &told.notes)?;
+    push_listing(alloc, &mut out, text, diagnosis, told)?;
     match diagnosis {
         Diagnosis::Text(_) => push_shut_words(&mut out, words)?,
         Diagnosis::Fails(peak) => {

@@ -3,12 +3,9 @@
 use crate::drawings::label::{Align, push_label};
 use chr_base::bag::Bag;
 use chr_base::derivation::Derivation;
-use chr_base::program::Program;
-use chr_base::text::store_text;
 use chr_diagnosis::{NamedProgram, Peak, told_rule};
-use chr_faults::Names;
+use chr_faults::{Names, push_number, push_text};
 use std::alloc::{AllocError, Global};
-use std::fmt::Write;
 
 /// One of the two sides of a case.
 #[derive(Clone, Copy)]
@@ -24,22 +21,34 @@ struct Side<'a> {
 fn push_store_node(
     alloc: Global,
     out: &mut String,
-    program: &Program,
+    source: NamedProgram<'_>,
     store: &Bag,
     is_end: bool,
 ) -> Result<(), AllocError> {
-    let text = store_text(alloc, program, store)?;
+    let text = source.store_text(alloc, store)?;
     push_label(out, text.as_str(), Align::Middle)?;
     out.push_str(if is_end { " [peripheries=2];\n" } else { ";\n" })
+}
+
+/// Adds the name of a store of a side, behind this.
+fn push_store_name(
+    out: &mut String,
+    before: &str,
+    name: &str,
+    number: usize,
+) -> Result<(), AllocError> {
+    push_text(out, before, name, "")?;
+    push_number(out, "", number as u64, "")
 }
 
 /// Adds the nodes that the edge to the store of this number of a side joins.
 fn push_ends(out: &mut String, name: &str, number: usize) -> Result<(), AllocError> {
     if number == 0 {
-        return Ok(write!(out, "  store -> {name}1 ")?);
+        return push_text(out, "  store -> ", name, "1 ");
     }
-    let next = usize::saturating_add(number, 1);
-    Ok(write!(out, "  {name}{number} -> {name}{next} ")?)
+    push_store_name(out, "  ", name, number)?;
+    push_store_name(out, " -> ", name, usize::saturating_add(number, 1))?;
+    out.push_str(" ")
 }
 
 /// Adds the edge to the store of this number of a side.
@@ -54,11 +63,24 @@ fn push_edge(
     let mut text = String::new(alloc);
     if let Some(step) = side.derivation.steps.get(number) {
         if let Some(rule) = told_rule(source, step.rule as usize) {
-            rule.push_step(alloc, &mut text, &step.heads)?;
+            rule.push_step(&mut text, &step.heads)?;
         }
     }
     push_label(out, text.as_str(), Align::Middle)?;
     out.push_str(";\n")
+}
+
+/// Adds the end of a side of which not all steps are told.
+fn push_cut_end(
+    alloc: Global,
+    out: &mut String,
+    source: NamedProgram<'_>,
+    side: Side<'_>,
+) -> Result<(), AllocError> {
+    push_text(out, "  ", side.name, "end ")?;
+    push_store_node(alloc, out, source, side.end, true)?;
+    push_store_name(out, "  ", side.name, side.stores.len())?;
+    push_text(out, " -> ", side.name, "end [label=\"more steps\"];\n")
 }
 
 /// Adds the stores and steps of a side.
@@ -71,28 +93,16 @@ fn push_side(
     let is_whole = side.stores.len() == side.derivation.steps.len();
     for (number, store) in side.stores.iter().enumerate() {
         let next = usize::saturating_add(number, 1);
-        write!(out, "  {}{next} ", side.name)?;
-        push_store_node(
-            alloc,
-            out,
-            source.program,
-            store,
-            is_whole && next == side.stores.len(),
-        )?;
+        let is_end = is_whole && next == side.stores.len();
+        push_store_name(out, "  ", side.name, next)?;
+        out.push_str(" ")?;
+        push_store_node(alloc, out, source, store, is_end)?;
         push_edge(alloc, out, source, side, number)?;
     }
     if is_whole {
         return Ok(());
     }
-    write!(out, "  {}end ", side.name)?;
-    push_store_node(alloc, out, source.program, side.end, true)?;
-    Ok(write!(
-        out,
-        "  {}{} -> {}end [label=\"more steps\"];\n",
-        side.name,
-        side.stores.len(),
-        side.name
-    )?)
+    push_cut_end(alloc, out, source, side)
 }
 
 /// Draws a case whose sides end in different stores.
@@ -106,7 +116,7 @@ pub(crate) fn push_peak_drawing(
     let source = NamedProgram { program, names };
     let failure = &peak.first.failure;
     out.push_str("digraph peak {\n  node [shape=box];\n  store ")?;
-    push_store_node(alloc, out, program, &failure.left.start, false)?;
+    push_store_node(alloc, out, source, &failure.left.start, false)?;
     let left = Side {
         name: "left",
         derivation: &failure.left,

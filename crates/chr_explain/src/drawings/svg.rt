@@ -2,8 +2,8 @@
 
 use crate::drawings::html::{push_html, push_html_char};
 use crate::drawings::limits::MAX_SVG_CHARACTERS;
+use chr_faults::push_number;
 use std::alloc::AllocError;
-use std::fmt::Write;
 
 /// How wide a character is.
 pub(crate) const CHARACTER: usize = 8;
@@ -33,9 +33,14 @@ pub(crate) fn push_svg(
     height: usize,
     label: &str,
 ) -> Result<(), AllocError> {
-    write!(
+    push_number(out, "<svg viewBox=\"0 0 ", width as u64, " ")?;
+    push_number(out, "", height as u64, "\"")?;
+    push_number(out, " width=\"", width as u64, "\"")?;
+    push_number(
         out,
-        "<svg viewBox=\"0 0 {width} {height}\" width=\"{width}\" height=\"{height}\" role=\"img\" aria-label=\""
+        " height=\"",
+        height as u64,
+        "\" role=\"img\" aria-label=\"",
     )?;
     push_html(out, label)?;
     out.push_str("\">\n")
@@ -61,7 +66,10 @@ pub(crate) fn push_svg_text(
     class: &str,
     text: &str,
 ) -> Result<(), AllocError> {
-    write!(out, "<text x=\"{x}\" y=\"{y}\" class=\"{class}\">")?;
+    push_number(out, "<text x=\"", x as u64, "\"")?;
+    push_number(out, " y=\"", y as u64, "\" class=\"")?;
+    out.push_str(class)?;
+    out.push_str("\">")?;
     push_cut(out, text)?;
     if MAX_SVG_CHARACTERS < text.chars().count() {
         out.push_str("<title>")?;
@@ -73,9 +81,8 @@ pub(crate) fn push_svg_text(
 
 /// Adds a line round a box.
 pub(crate) fn push_frame(out: &mut String, frame: Frame) -> Result<(), AllocError> {
-    Ok(write!(
-        out,
-        "<rect class=\"box\" x=\"{}\" y=\"{}\" width=\"{}\" height=\"{}\" rx=\"3\"/>\n",
-        frame.x, frame.y, frame.width, frame.height
-    )?)
+    push_number(out, "<rect class=\"box\" x=\"", frame.x as u64, "\"")?;
+    push_number(out, " y=\"", frame.y as u64, "\"")?;
+    push_number(out, " width=\"", frame.width as u64, "\"")?;
+    push_number(out, " height=\"", frame.height as u64, "\" rx=\"3\"/>\n")
 }

@@ -3,25 +3,33 @@
 use crate::sentences::keys::{Key, key_of};
 use crate::sentences::symbol_text::push_symbol;
 use chr_base::atom::SymbolId;
-use chr_base::program::Program;
-use chr_base::text::push_store;
-use chr_diagnosis::{Pair, pairs_beside, staying_pair};
+use chr_diagnosis::{NamedProgram, Pair, pairs_beside, staying_pair};
+use chr_faults::{ColumnNames, Names, columns_of, push_number};
 use chr_weights::Weighed;
 use std::alloc::{AllocError, Global};
-use std::fmt::Write;
 
 /// What stands before what is told of each symbol.
 const SEARCHED: &str =
     "What may stay side by side (searched: stores of two facts with values 0 and 1):\n";
 
-/// Adds the symbol that a line tells of.
-fn push_line_start(
-    out: &mut String,
-    program: &Program,
+/// The facts of one symbol of a program.
+#[derive(Clone, Copy)]
+struct Facts<'a> {
+    source: NamedProgram<'a>,
     symbol: SymbolId,
-) -> Result<(), AllocError> {
+}
+
+impl<'a> Facts<'a> {
+    /// The names of their columns.
+    fn columns(&self) -> Option<&'a ColumnNames> {
+        columns_of(&self.source.names.columns, self.symbol)
+    }
+}
+
+/// Adds the symbol that a line tells of.
+fn push_line_start(out: &mut String, facts: Facts<'_>) -> Result<(), AllocError> {
     out.push_str("  ")?;
-    push_symbol(out, program, symbol)?;
+    push_symbol(out, facts.source.program, facts.symbol)?;
     out.push_str(": ")
 }
 
@@ -29,30 +37,67 @@ fn push_line_start(
 fn push_example(
     alloc: Global,
     out: &mut String,
-    program: &Program,
+    facts: Facts<'_>,
     pair: &Pair,
 ) -> Result<(), AllocError> {
     out.push_str(", as ")?;
     let store = pair.store(alloc)?;
-    push_store(alloc, out, program, &store)?;
+    facts.source.push_store(alloc, out, &store)?;
     out.push_str("\n")
 }
 
-/// Adds these columns, counted from 1.
-fn push_columns(out: &mut String, columns: &[bool]) -> Result<(), AllocError> {
+/// What stands before one of so many names, of which some have been told.
+fn before_name(told: usize, count: usize) -> &'static str {
+    if told == 0 {
+        ""
+    } else if usize::saturating_add(told, 1) == count {
+        " and "
+    } else {
+        ", "
+    }
+}
+
+/// Adds the names of these columns.
+fn push_names(out: &mut String, columns: &[bool], names: &ColumnNames) -> Result<(), AllocError> {
     let count = columns.iter().filter(|chosen| **chosen).count();
-    let mut before = if count == 1 { "column" } else { "columns" };
+    let mut told = 0;
     for (column, chosen) in columns.iter().enumerate() {
         if *chosen {
-            write!(out, "{before} {}", usize::saturating_add(column, 1))?;
-            before = ",";
+            out.push_str(before_name(told, count))?;
+            out.push_str(names.name(column).unwrap_or("_"))?;
+            told = usize::saturating_add(told, 1);
+        }
+    }
+    Ok(())
+}
+
+/// Adds these columns, by their names or counted from 1.
+fn push_columns(
+    out: &mut String,
+    columns: &[bool],
+    names: Option<&ColumnNames>,
+) -> Result<(), AllocError> {
+    match names {
+        Some(names) => push_names(out, columns, names),
+        None => push_numbers(out, columns),
+    }
+}
+
+/// Adds these columns, counted from 1.
+fn push_numbers(out: &mut String, columns: &[bool]) -> Result<(), AllocError> {
+    let count = columns.iter().filter(|chosen| **chosen).count();
+    let mut before = if count == 1 { "column " } else { "columns " };
+    for (column, chosen) in columns.iter().enumerate() {
+        if *chosen {
+            push_number(out, before, usize::saturating_add(column, 1) as u64, "")?;
+            before = ", ";
         }
     }
     Ok(())
 }
 
 /// The set of columns whose number this is: column 1 counts 1, column 2 counts 2, column 3 counts 4, and so on.
-fn columns_of(alloc: Global, arity: usize, number: usize) -> Result<Vec<bool>, AllocError> {
+fn set_of(alloc: Global, arity: usize, number: usize) -> Result<Vec<bool>, AllocError> {
     let mut columns = Vec::new(alloc);
     let mut rest = number;
     for _ in 0..arity {
@@ -80,19 +125,18 @@ fn is_part(part: &[bool], columns: &[bool]) -> bool {
 fn push_twice(
     alloc: Global,
     out: &mut String,
-    program: &Program,
-    symbol: SymbolId,
+    facts: Facts<'_>,
     arity: usize,
     pairs: &[Pair],
 ) -> Result<(), AllocError> {
-    let none = columns_of(alloc, arity, 0)?;
-    push_line_start(out, program, symbol)?;
+    let none = set_of(alloc, arity, 0)?;
+    push_line_start(out, facts)?;
     match staying_pair(pairs, &none) {
         Some(pair) => {
-            out.push_str("told twice it may stay twice")?;
-            push_example(alloc, out, program, pair)
+            out.push_str("a fact that is told twice may stay twice")?;
+            push_example(alloc, out, facts, pair)
         }
-        None => out.push_str("told twice it never stays twice\n"),
+        None => out.push_str("a fact that is told twice never stays twice\n"),
     }
 }
 
@@ -114,7 +158,7 @@ fn apart_pairs<'a>(
     let arity = key.columns.len();
     let mut found: Vec<&'a Pair> = Vec::new(alloc);
     for number in 1..count_of_sets(arity) {
-        let columns = columns_of(alloc, arity, number)?;
+        let columns = set_of(alloc, arity, number)?;
         let is_told = found.iter().any(|pair| is_part(&pair.apart, &columns));
         if !is_told && !have_common(&key.columns, &columns) {
             if let Some(pair) = staying_pair(pairs, &columns) {
@@ -126,10 +170,10 @@ fn apart_pairs<'a>(
 }
 
 /// Adds in which columns two facts agree, where there are some.
-fn push_same(out: &mut String, key: &Key) -> Result<(), AllocError> {
+fn push_same(out: &mut String, key: &Key, names: Option<&ColumnNames>) -> Result<(), AllocError> {
     if key.columns.iter().any(|same| *same) {
         out.push_str(" with the same ")?;
-        push_columns(out, &key.columns)?;
+        push_columns(out, &key.columns, names)?;
     }
     Ok(())
 }
@@ -138,25 +182,25 @@ fn push_same(out: &mut String, key: &Key) -> Result<(), AllocError> {
 fn push_apart(
     alloc: Global,
     out: &mut String,
-    program: &Program,
-    symbol: SymbolId,
+    facts: Facts<'_>,
     key: &Key,
     pairs: &[Pair],
 ) -> Result<(), AllocError> {
+    let names = facts.columns();
     let found = apart_pairs(alloc, key, pairs)?;
     if found.is_empty() {
-        push_line_start(out, program, symbol)?;
+        push_line_start(out, facts)?;
         out.push_str("no two")?;
-        push_same(out, key)?;
+        push_same(out, key, names)?;
         return out.push_str(" stay\n");
     }
     for pair in found {
-        push_line_start(out, program, symbol)?;
+        push_line_start(out, facts)?;
         out.push_str("two")?;
-        push_same(out, key)?;
+        push_same(out, key, names)?;
         out.push_str(" may stay that differ in ")?;
-        push_columns(out, &pair.apart)?;
-        push_example(alloc, out, program, pair)?;
+        push_columns(out, &pair.apart, names)?;
+        push_example(alloc, out, facts, pair)?;
     }
     Ok(())
 }
@@ -166,14 +210,13 @@ fn push_symbol_beside(
     alloc: Global,
     out: &mut String,
     weighed: &Weighed,
-    symbol: SymbolId,
+    facts: Facts<'_>,
 ) -> Result<(), AllocError> {
-    let program = weighed.program();
-    let key = key_of(alloc, program, symbol)?;
-    let pairs = pairs_beside(alloc, weighed, symbol)?;
-    push_twice(alloc, out, program, symbol, key.columns.len(), &pairs)?;
+    let key = key_of(alloc, facts.source.program, facts.symbol)?;
+    let pairs = pairs_beside(alloc, weighed, facts.symbol)?;
+    push_twice(alloc, out, facts, key.columns.len(), &pairs)?;
     if key.is_compared && key.columns.iter().any(|same| !*same) {
-        push_apart(alloc, out, program, symbol, &key, &pairs)?;
+        push_apart(alloc, out, facts, &key, &pairs)?;
     }
     Ok(())
 }
@@ -182,13 +225,16 @@ fn push_symbol_beside(
 pub(crate) fn push_beside(
     alloc: Global,
     out: &mut String,
+    names: &Names,
     weighed: &Weighed,
 ) -> Result<(), AllocError> {
-    let symbols = weighed.program().symbols();
+    let program = weighed.program();
+    let source = NamedProgram { program, names };
+    let symbols = program.symbols();
     out.push_str(if symbols == 0 { "" } else { SEARCHED })?;
     for number in 0..symbols {
         let symbol = SymbolId(u16::try_from(number).unwrap_or(u16::MAX));
-        push_symbol_beside(alloc, out, weighed, symbol)?;
+        push_symbol_beside(alloc, out, weighed, Facts { source, symbol })?;
     }
     Ok(())
 }

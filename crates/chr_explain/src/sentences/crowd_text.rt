@@ -7,10 +7,9 @@ use chr_base::limits::MAX_ARITY;
 use chr_base::program::Program;
 use chr_base::rule::Rule;
 use chr_diagnosis::{NamedProgram, Throng};
-use chr_faults::Names;
+use chr_faults::{Names, columns_of, push_number, push_text};
 use chr_sorting::{Kind, Sorting, finest_sorts};
 use std::alloc::{AllocError, Global};
-use std::fmt::Write;
 
 /// Tells of an overlap with too many combinations of values: its rules, and which columns are compared.
 pub(crate) fn push_throng(
@@ -21,12 +20,13 @@ pub(crate) fn push_throng(
 ) -> Result<(), AllocError> {
     let program = throng.weighed.program();
     let overlap = &throng.too_many.overlap;
-    let Some(told) = told_overlap(NamedProgram { program, names }, overlap) else {
+    let source = NamedProgram { program, names };
+    let Some(told) = told_overlap(source, overlap) else {
         return Ok(());
     };
     told.push_rules(alloc, out)?;
     told.push_matched(alloc, out)?;
-    push_compared(alloc, out, told)?;
+    push_compared(alloc, out, source, told)?;
     out.push_str("Compare fewer of these columns, or compare them in fewer heads.\n")
 }
 
@@ -41,14 +41,19 @@ pub(crate) fn has_head(rule: &Rule, symbol: SymbolId) -> bool {
 }
 
 /// Adds which columns of the overlap's heads are compared, a line for each symbol.
-fn push_compared(alloc: Global, out: &mut String, told: ToldOverlap<'_>) -> Result<(), AllocError> {
-    let program = told.first.program;
+fn push_compared(
+    alloc: Global,
+    out: &mut String,
+    source: NamedProgram<'_>,
+    told: ToldOverlap<'_>,
+) -> Result<(), AllocError> {
+    let program = source.program;
     let sorting = finest_sorts(alloc, program)?;
     out.push_str("Columns of its heads that rules compare:\n")?;
     for number in 0..program.symbols() {
         let symbol = SymbolId(u16::try_from(number).unwrap_or(u16::MAX));
         if has_head(told.first.rule, symbol) || has_head(told.second.rule, symbol) {
-            push_columns(alloc, out, program, &sorting, symbol)?;
+            push_columns(alloc, out, source, &sorting, symbol)?;
         }
     }
     Ok(())
@@ -57,16 +62,13 @@ fn push_compared(alloc: Global, out: &mut String, told: ToldOverlap<'_>) -> Resu
 /// Which columns of a symbol are compared by order, and which by equality, each kind after a semicolon.
 pub(crate) fn columns_text(
     alloc: Global,
-    program: &Program,
+    source: NamedProgram<'_>,
     sorting: &Sorting,
     symbol: SymbolId,
 ) -> Result<String, AllocError> {
     let mut columns = String::new(alloc);
-    if usize::from(symbol.0) < program.symbols() {
-        let arity = program.arity_of(symbol);
-        push_kind(&mut columns, sorting, symbol, arity, Kind::Ordered)?;
-        push_kind(&mut columns, sorting, symbol, arity, Kind::Equal)?;
-    }
+    push_kind(&mut columns, source, sorting, symbol, Kind::Ordered)?;
+    push_kind(&mut columns, source, sorting, symbol, Kind::Equal)?;
     Ok(columns)
 }
 
@@ -74,36 +76,64 @@ pub(crate) fn columns_text(
 fn push_columns(
     alloc: Global,
     out: &mut String,
-    program: &Program,
+    source: NamedProgram<'_>,
     sorting: &Sorting,
     symbol: SymbolId,
 ) -> Result<(), AllocError> {
-    let columns = columns_text(alloc, program, sorting, symbol)?;
+    let columns = columns_text(alloc, source, sorting, symbol)?;
     if let Some(columns) = columns.as_str().strip_prefix("; ") {
         out.push_str("  ")?;
-        push_symbol(out, program, symbol)?;
-        write!(out, ": {columns}\n")?;
+        push_symbol(out, source.program, symbol)?;
+        push_text(out, ": ", columns, "\n")?;
     }
     Ok(())
 }
 
-/// Adds which of the first columns of a symbol are compared like this.
+/// The name of a column, counted from 0, where it has one.
+fn column_name<'a>(source: NamedProgram<'a>, symbol: SymbolId, column: usize) -> Option<&'a str> {
+    columns_of(&source.names.columns, symbol)?.name(column)
+}
+
+/// Adds the name of a column, or its number, counted from 1.
+pub(crate) fn push_column(
+    out: &mut String,
+    source: NamedProgram<'_>,
+    symbol: SymbolId,
+    column: usize,
+) -> Result<(), AllocError> {
+    match column_name(source, symbol, column) {
+        Some(name) => out.push_str(name),
+        None => push_number(out, "", usize::saturating_add(column, 1) as u64, ""),
+    }
+}
+
+/// How many arguments the symbol has, where the program declares it.
+fn arity_of(program: &Program, symbol: SymbolId) -> usize {
+    if usize::from(symbol.0) < program.symbols() {
+        program.arity_of(symbol)
+    } else {
+        0
+    }
+}
+
+/// Adds which columns of a symbol are compared like this.
 fn push_kind(
     out: &mut String,
+    source: NamedProgram<'_>,
     sorting: &Sorting,
     symbol: SymbolId,
-    arity: usize,
     kind: Kind,
 ) -> Result<(), AllocError> {
     let mut before = if kind == Kind::Ordered {
-        "; by order"
+        "; by order "
     } else {
-        "; by equality"
+        "; by equality "
     };
-    for argument in 0..arity.min(MAX_ARITY) {
+    for argument in 0..arity_of(source.program, symbol).min(MAX_ARITY) {
         if sorting.kind(sorting.sort(symbol, argument)) == kind {
-            write!(out, "{before} {}", usize::saturating_add(argument, 1))?;
-            before = ",";
+            out.push_str(before)?;
+            push_column(out, source, symbol, argument)?;
+            before = ", ";
         }
     }
     Ok(())

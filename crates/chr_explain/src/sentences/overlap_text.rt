@@ -2,9 +2,9 @@
 
 use chr_base::rule::Rule;
 use chr_diagnosis::{NamedProgram, ToldRule, told_rule};
+use chr_faults::push_number;
 use chr_overlaps::Overlap;
 use std::alloc::{AllocError, Global};
-use std::fmt::Write;
 
 /// An overlap with its two rules.
 #[derive(Clone, Copy)]
@@ -66,26 +66,39 @@ impl ToldOverlap<'_> {
 
     /// Adds both rules, each in its line.
     pub(crate) fn push_rules(&self, alloc: Global, out: &mut String) -> Result<(), AllocError> {
-        write!(out, "  rule {}: ", self.first.number)?;
+        push_number(out, "  rule ", self.first.number as u64, ": ")?;
         self.first.push_clause(alloc, out)?;
-        write!(out, "\n  rule {}{}: ", self.second.number, self.again())?;
+        push_number(out, "\n  rule ", self.second.number as u64, self.again())?;
+        out.push_str(": ")?;
         self.second.push_clause(alloc, out)?;
         out.push_str("\n")
     }
 
     /// Adds which heads are matched, each in its line.
     pub(crate) fn push_matched(&self, alloc: Global, out: &mut String) -> Result<(), AllocError> {
-        out.push_str("One atom stands for two heads:\n")?;
+        out.push_str("One fact is matched by two heads:\n")?;
         for (place, entry) in self.overlap.matching.iter().enumerate() {
             if *entry != 0 {
-                out.push_str("  ")?;
-                self.first
-                    .push_head(alloc, out, usize::saturating_add(place, 1))?;
-                write!(out, " of rule {} and ", self.first.number)?;
-                self.second.push_head(alloc, out, usize::from(*entry))?;
-                write!(out, " of rule {}{}\n", self.second.number, self.again())?;
+                let first = usize::saturating_add(place, 1);
+                self.push_heads(alloc, out, first, usize::from(*entry))?;
             }
         }
         Ok(())
+    }
+
+    /// Adds these heads of the two rules.
+    fn push_heads(
+        &self,
+        alloc: Global,
+        out: &mut String,
+        first: usize,
+        second: usize,
+    ) -> Result<(), AllocError> {
+        out.push_str("  ")?;
+        self.first.push_head(alloc, out, first)?;
+        push_number(out, " of rule ", self.first.number as u64, " and ")?;
+        self.second.push_head(alloc, out, second)?;
+        push_number(out, " of rule ", self.second.number as u64, self.again())?;
+        out.push_str("\n")
     }
 }

@@ -1,9 +1,9 @@
 //! Overlaps summed over pairs of rules.
 
 use chr_diagnosis::Counted;
+use chr_faults::push_number;
 use chr_join::Coverage;
 use std::alloc::{AllocError, Global};
-use std::fmt::Write;
 
 /// Two rules, or a rule twice, with the numbers of their overlaps and of the cases of these.
 #[derive(Clone, Copy, Debug, PartialEq, Eq)]
@@ -72,9 +72,9 @@ pub(crate) fn push_numbers(
     pair: &ToldPair,
     coverage: Coverage,
 ) -> Result<(), AllocError> {
-    write!(out, "overlaps {}", pair.overlaps)?;
-    if coverage == Coverage::Joint {
-        write!(out, ", cases {}", pair.cases)?;
+    push_number(out, "overlaps ", pair.overlaps as u64, "")?;
+    match coverage {
+        Coverage::Joint => push_number(out, ", cases ", pair.cases as u64, ""),
+        Coverage::Sorted => Ok(()),
     }
-    Ok(())
 }

@@ -2,14 +2,14 @@
 
 use crate::sentences::overlap_text::{ToldOverlap, told_overlap};
 use chr_base::bag::Bag;
-use chr_base::derivation::Derivation;
+use chr_base::derivation::{Derivation, Step};
 use chr_base::program::Program;
 use chr_base::text::push_store;
 use chr_diagnosis::{NamedProgram, Peak, Proposal, Ways, told_rule};
-use chr_faults::Names;
+use chr_faults::{Names, push_number, push_text};
 use chr_join::Failure;
+use chr_overlaps::Overlap;
 use std::alloc::{AllocError, Global};
-use std::fmt::Write;
 
 /// What can be done of any case.
 const ADVICE: &str =
@@ -22,6 +22,22 @@ const COMPETITION: &str =
 /// What is told where nothing is proposed.
 const NO_CHANGE: &str = "No change of one rule was found with which the program is accepted.";
 
+/// Adds what a step does, and the store that it leaves.
+fn push_step(
+    alloc: Global,
+    out: &mut String,
+    source: NamedProgram<'_>,
+    step: &Step,
+    store: &Bag,
+) -> Result<(), AllocError> {
+    if let Some(rule) = told_rule(source, step.rule as usize) {
+        rule.push_step(out, &step.heads)?;
+    }
+    out.push_str(", and leaves ")?;
+    source.push_store(alloc, out, store)?;
+    out.push_str("\n")
+}
+
 /// Adds the steps of one side, a line for each, and its end.
 fn push_side(
     alloc: Global,
@@ -32,20 +48,15 @@ fn push_side(
     end: &Bag,
 ) -> Result<(), AllocError> {
     for (i, (step, store)) in side.steps.iter().zip(stores.iter()).enumerate() {
-        write!(out, "  {}. ", usize::saturating_add(i, 1))?;
-        if let Some(rule) = told_rule(source, step.rule as usize) {
-            rule.push_step(alloc, out, &step.heads)?;
-        }
-        out.push_str(", and leaves ")?;
-        push_store(alloc, out, source.program, store)?;
-        out.push_str("\n")?;
+        push_number(out, "  ", usize::saturating_add(i, 1) as u64, ". ")?;
+        push_step(alloc, out, source, step, store)?;
     }
     let more = side.steps.len().saturating_sub(stores.len());
     if 0 < more {
-        write!(out, "  and {more} steps more\n")?;
+        push_number(out, "  and ", more as u64, " steps more\n")?;
     }
     out.push_str("  end: ")?;
-    push_store(alloc, out, source.program, end)?;
+    source.push_store(alloc, out, end)?;
     out.push_str("\n")
 }
 
@@ -64,7 +75,7 @@ fn push_values(
         told.second.push_values(&mut values, &step.heads)?;
     }
     if let Some(values) = values.as_str().strip_prefix(", ") {
-        write!(out, "Values with which they disagree: {values}\n")?;
+        push_text(out, "Values with which they disagree: ", values, "\n")?;
     }
     Ok(())
 }
@@ -78,7 +89,7 @@ fn push_ways(
 ) -> Result<(), AllocError> {
     let failure = &ways.failure;
     out.push_str("The store: ")?;
-    push_store(alloc, out, source.program, &failure.left.start)?;
+    source.push_store(alloc, out, &failure.left.start)?;
     out.push_str("\nOne way:\n")?;
     push_side(
         alloc,
@@ -113,6 +124,17 @@ fn push_case(
     push_ways(alloc, out, source, ways)
 }
 
+/// Adds an overlap as a check writes it.
+fn push_overlap(out: &mut String, overlap: &Overlap) -> Result<(), AllocError> {
+    push_number(out, "  rules ", u64::from(overlap.first), " ")?;
+    push_number(out, "", u64::from(overlap.second), "; matching (")?;
+    for (place, entry) in overlap.matching.iter().enumerate() {
+        let before = if place == 0 { "" } else { "," };
+        push_number(out, before, u64::from(*entry), "")?;
+    }
+    out.push_str(")")
+}
+
 /// Adds what a check writes of the first case that fails.
 fn push_first(
     alloc: Global,
@@ -120,16 +142,9 @@ fn push_first(
     program: &Program,
     failure: &Failure,
 ) -> Result<(), AllocError> {
-    let overlap = &failure.overlap;
-    write!(
-        out,
-        "A check tells of the first case:\n  rules {} {}; matching (",
-        overlap.first, overlap.second
-    )?;
-    for (place, entry) in overlap.matching.iter().enumerate() {
-        write!(out, "{}{entry}", if place == 0 { "" } else { "," })?;
-    }
-    out.push_str("); store ")?;
+    out.push_str("A check tells of the first case:\n")?;
+    push_overlap(out, &failure.overlap)?;
+    out.push_str("; store ")?;
     push_store(alloc, out, program, &failure.left.start)?;
     out.push_str("; left ")?;
     push_store(alloc, out, program, &failure.left_end)?;

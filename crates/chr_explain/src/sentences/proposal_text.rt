@@ -1,10 +1,9 @@
 //! Proposals, as text.
 
-use chr_base::text::push_store;
-use chr_diagnosis::{Peak, Proposal, SmallStores, kept_alone};
+use chr_diagnosis::{NamedProgram, Peak, Proposal, SmallStores, kept_alone};
+use chr_faults::{Names, push_number};
 use chr_join::Coverage;
 use std::alloc::{AllocError, Global};
-use std::fmt::Write;
 
 /// Adds rules, each in its line.
 fn push_lines(out: &mut String, rules: &str) -> Result<(), AllocError> {
@@ -35,11 +34,18 @@ fn kept_as(copies: bool) -> &'static str {
     }
 }
 
+/// What is told of a proposal that keeps no such store.
+const NONE_KEPT: &str = "Of the small stores that were tried none is kept by this one alone.";
+
 /// What is looked at of a case that fails, and proposed of it.
 #[derive(Clone, Copy)]
 struct Choice<'a> {
+    /// The names in the text of the program.
+    names: &'a Names,
     peak: &'a Peak,
+    /// The small stores among which one is looked for that a proposal alone keeps.
     small: &'a SmallStores,
+    /// All that are proposed.
     proposals: &'a [Proposal],
 }
 
@@ -62,9 +68,24 @@ fn push_kept(
     if let Some(store) = found {
         let mut sentence = String::new(alloc);
         sentence.push_str(kept_as(copies))?;
-        push_store(alloc, &mut sentence, choice.peak.weighed.program(), &store)?;
+        let program = choice.peak.weighed.program();
+        let source = NamedProgram {
+            program,
+            names: choice.names,
+        };
+        source.push_store(alloc, &mut sentence, &store)?;
         kept.push(sentence)?;
     }
+    Ok(())
+}
+
+/// Adds a sentence to others.
+fn push_sentence(
+    alloc: Global,
+    sentences: &mut Vec<String>,
+    sentence: &str,
+) -> Result<(), AllocError> {
+    sentences.push(String::from_str(alloc, sentence)?)?;
     Ok(())
 }
 
@@ -78,7 +99,7 @@ fn kept_by(
     push_kept(alloc, &mut kept, choice, proposal, false)?;
     push_kept(alloc, &mut kept, choice, proposal, true)?;
     if kept.is_empty() {
-        kept.push(format!(in alloc; "No small store is kept by this one alone.")?)?;
+        push_sentence(alloc, &mut kept, NONE_KEPT)?;
     }
     Ok(kept)
 }
@@ -86,6 +107,7 @@ fn kept_by(
 /// What each of these proposals alone keeps.
 pub(crate) fn kept_of(
     alloc: Global,
+    names: &Names,
     peak: &Peak,
     proposals: &[Proposal],
 ) -> Result<Vec<Vec<String>>, AllocError> {
@@ -95,6 +117,7 @@ pub(crate) fn kept_of(
     }
     let small = SmallStores::of(alloc, peak)?;
     let choice = Choice {
+        names,
         peak,
         small: &small,
         proposals,
@@ -107,7 +130,12 @@ pub(crate) fn kept_of(
 
 /// Adds a proposal, and what it alone keeps.
 fn push_proposal(out: &mut String, proposal: &Proposal, kept: &[String]) -> Result<(), AllocError> {
-    write!(out, " with this in place of rule {}:\n", proposal.rule)?;
+    push_number(
+        out,
+        " with this in place of rule ",
+        proposal.rule as u64,
+        ":\n",
+    )?;
     push_lines(out, proposal.rules.as_str())?;
     for sentence in kept {
         out.push_str(sentence.as_str())?;

@@ -2,8 +2,8 @@
 
 use chr_base::atom::SymbolId;
 use chr_base::program::Program;
+use chr_faults::push_number;
 use std::alloc::AllocError;
-use std::fmt::Write;
 
 /// Adds the name and the number of arguments of a symbol of the program.
 pub(crate) fn push_symbol(
@@ -14,7 +14,8 @@ pub(crate) fn push_symbol(
     if usize::from(symbol.0) < program.symbols() {
         let name = program.name_of(symbol);
         let arity = program.arity_of(symbol);
-        write!(out, "{name}/{arity}")?;
+        out.push_str(name)?;
+        push_number(out, "/", arity as u64, "")?;
     }
     Ok(())
 }

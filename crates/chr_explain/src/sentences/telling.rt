@@ -10,16 +10,19 @@ use crate::sentences::proposal_text::{kept_of, push_proposals};
 use crate::sentences::told::Told;
 use crate::sentences::weighing_text::{push_cycle, push_found};
 use crate::sentences::weight_text::{can_lower, push_lowering, push_weights};
+use chr_base::program::Program;
 use chr_diagnosis::{
     Census, Diagnosis, Judged, NamedProgram, Peak, Proposal, Throng, ToldRule, Unlowered, told_rule,
 };
-use chr_faults::{Names, TextFaults, faults_told, notes_of};
+use chr_faults::{
+    Names, TextFaults, column_faults, faults_told, notes_of, push_column_faults, push_number,
+    push_text,
+};
 use chr_join::Coverage;
 use chr_overlaps::cases::MAX_TYPES;
 use chr_weighing::{MAX_SEARCH_STEPS, Weighing};
 use chr_weights::NotLowered;
 use std::alloc::{AllocError, Global};
-use std::fmt::Write;
 
 /// Tells of a rule that does not lower the weight.
 fn push_unlowered(
@@ -33,7 +36,12 @@ fn push_unlowered(
         program: &told.program,
         names,
     };
-    write!(out, "refused 20: rule {number} does not lower the weight\n")?;
+    push_number(
+        out,
+        "refused 20: rule ",
+        number as u64,
+        " does not lower the weight\n",
+    )?;
     let Some(rule) = told_rule(source, number) else {
         return Ok(());
     };
@@ -80,9 +88,11 @@ fn push_unknown(
     rule: ToldRule<'_>,
     fault: &NotLowered,
 ) -> Result<(), AllocError> {
-    write!(
+    push_number(
         out,
-        "A search of at most {MAX_SEARCH_STEPS} steps found neither weights for all rules, nor rules that have none.\n"
+        "A search of at most ",
+        MAX_SEARCH_STEPS as u64,
+        " steps found neither weights for all rules, nor rules that have none.\n",
     )?;
     push_lowering(out, rule, fault)?;
     out.push_str(
@@ -96,38 +106,47 @@ fn push_numbers_of(out: &mut String, census: &Census) -> Result<(), AllocError> 
     let overlaps = census.counts.len();
     let cases = census.accepted.cases();
     let by = by_option(census.accepted.coverage());
-    Ok(write!(
-        out,
-        "accepted{by}: rules {rules}, overlaps {overlaps}, cases {cases}\n"
-    )?)
+    push_text(out, "accepted", by, ": rules ")?;
+    push_number(out, "", rules as u64, ", overlaps ")?;
+    push_number(out, "", overlaps as u64, ", cases ")?;
+    push_number(out, "", cases as u64, "\n")
 }
 
 /// Tells what an accepted program is.
 fn push_census(
     alloc: Global,
     out: &mut String,
+    names: &Names,
     census: &Census,
     all: bool,
 ) -> Result<(), AllocError> {
     out.push_str("Every store comes to one end, in whatever order the rules are applied.\n")?;
-    push_beside(alloc, out, census.accepted.weighed())?;
+    push_beside(alloc, out, names, census.accepted.weighed())?;
     let pairs = pairs_of(alloc, &census.counts)?;
     if !all && MAX_TOLD_PAIRS < pairs.len() {
-        return Ok(write!(
-            out,
-            "{} pairs of rules overlap; `--all` tells each.\n",
-            pairs.len()
-        )?);
+        let behind = " pairs of rules overlap; `--all` tells each.\n";
+        return push_number(out, "", pairs.len() as u64, behind);
     }
-    for pair in &pairs {
-        push_pair(out, pair, census.accepted.coverage())?;
+    push_pairs(out, &pairs, census.accepted.coverage())
+}
+
+/// Tells of all overlaps, by pairs of rules.
+fn push_pairs(out: &mut String, pairs: &[ToldPair], coverage: Coverage) -> Result<(), AllocError> {
+    out.push_str(if pairs.is_empty() {
+        ""
+    } else {
+        "Rules whose heads overlap:\n"
+    })?;
+    for pair in pairs {
+        push_pair(out, pair, coverage)?;
     }
     Ok(())
 }
 
 /// Tells of the overlaps of two rules.
 fn push_pair(out: &mut String, pair: &ToldPair, coverage: Coverage) -> Result<(), AllocError> {
-    write!(out, "  rules {} {}: ", pair.first, pair.second)?;
+    push_number(out, "  rules ", u64::from(pair.first), " ")?;
+    push_number(out, "", u64::from(pair.second), ": ")?;
     push_numbers(out, pair, coverage)?;
     out.push_str("\n")
 }
@@ -141,9 +160,12 @@ fn push_throng_of(
     throng: &Throng,
 ) -> Result<(), AllocError> {
     let by = by_option(judged.coverage);
-    write!(
+    push_text(out, "refused 22", by, "")?;
+    push_number(
         out,
-        "refused 22{by}: an overlap has more than {MAX_TYPES} combinations of values\n"
+        ": an overlap has more than ",
+        MAX_TYPES as u64,
+        " combinations of values\n",
     )?;
     push_judged(out, judged)?;
     push_throng(alloc, out, names, throng)
@@ -164,7 +186,7 @@ fn push_program(
         Diagnosis::Accepted(census) => {
             push_numbers_of(out, census)?;
             push_judged(out, judged)?;
-            push_census(alloc, out, census, all)
+            push_census(alloc, out, names, census, all)
         }
     }
 }
@@ -173,18 +195,26 @@ fn push_program(
 fn program_told(
     alloc: Global,
     text: &[u8],
+    program: &Program,
     judged: &Judged,
     all: bool,
 ) -> Result<Told, AllocError> {
-    let names = Names::of(alloc, text)?;
-    let mut told = String::new(alloc);
-    push_program(alloc, &mut told, &names, judged, all)?;
-    Ok(Told {
-        text: told,
-        notes: Vec::new(alloc),
-        advice: Vec::new(alloc),
-        kept: Vec::new(alloc),
-    })
+    let names = Names::of(alloc, text, program)?;
+    let mut told = Told::nothing(alloc);
+    push_program(alloc, &mut told.text, &names, judged, all)?;
+    tell_misnamed(alloc, &mut told, text, program)?;
+    Ok(told)
+}
+
+/// Tells of comments that name columns as the program has none.
+fn tell_misnamed(
+    alloc: Global,
+    told: &mut Told,
+    text: &[u8],
+    program: &Program,
+) -> Result<(), AllocError> {
+    told.misnamed = column_faults(alloc, text, program)?;
+    push_column_faults(&mut told.text, text, &told.misnamed)
 }
 
 /// Tells of a case that fails, and of what can be done but for what is proposed.
@@ -197,7 +227,7 @@ fn push_failing(
     advice: &[&'static str],
 ) -> Result<(), AllocError> {
     let by = by_option(judged.coverage);
-    write!(out, "refused 21{by}: one store comes to two ends\n")?;
+    push_text(out, "refused 21", by, ": one store comes to two ends\n")?;
     push_judged(out, judged)?;
     push_peak(alloc, out, names, peak)?;
     for sentence in advice {
@@ -205,6 +235,21 @@ fn push_failing(
         out.push_str("\n")?;
     }
     Ok(())
+}
+
+/// Tells of a program of which a case fails.
+fn tell_peak(
+    alloc: Global,
+    told: &mut Told,
+    names: &Names,
+    judged: &Judged,
+    peak: &Peak,
+    proposals: &[Proposal],
+) -> Result<(), AllocError> {
+    told.advice = advice_of(alloc, names, peak, proposals)?;
+    told.kept = kept_of(alloc, names, peak, proposals)?;
+    push_failing(alloc, &mut told.text, names, judged, peak, &told.advice)?;
+    push_proposals(&mut told.text, judged.coverage, proposals, &told.kept)
 }
 
 /// What is to be told of a program of which a case fails.
@@ -215,30 +260,20 @@ fn peak_told(
     peak: &Peak,
     proposals: &[Proposal],
 ) -> Result<Told, AllocError> {
-    let names = Names::of(alloc, text)?;
-    let advice = advice_of(alloc, &names, peak, proposals)?;
-    let kept = kept_of(alloc, peak, proposals)?;
-    let mut told = String::new(alloc);
-    push_failing(alloc, &mut told, &names, judged, peak, &advice)?;
-    push_proposals(&mut told, judged.coverage, proposals, &kept)?;
-    Ok(Told {
-        text: told,
-        notes: Vec::new(alloc),
-        advice,
-        kept,
-    })
+    let program = peak.weighed.program();
+    let names = Names::of(alloc, text, program)?;
+    let mut told = Told::nothing(alloc);
+    tell_peak(alloc, &mut told, &names, judged, peak, proposals)?;
+    tell_misnamed(alloc, &mut told, text, program)?;
+    Ok(told)
 }
 
 /// What is to be told of a text that is no program.
 fn faulty_told(alloc: Global, text: &[u8], faults: &TextFaults) -> Result<Told, AllocError> {
-    let notes = notes_of(alloc, text, faults)?;
-    let told = faults_told(alloc, text, faults, &notes)?;
-    Ok(Told {
-        text: told,
-        notes,
-        advice: Vec::new(alloc),
-        kept: Vec::new(alloc),
-    })
+    let mut told = Told::nothing(alloc);
+    told.notes = notes_of(alloc, text, faults)?;
+    told.text = faults_told(alloc, text, faults, &told.notes)?;
+    Ok(told)
 }
 
 /// What is to be told of a text, of all pairs of rules where `all`.
@@ -252,6 +287,12 @@ pub(crate) fn told_text(
     match &judged.diagnosis {
         Diagnosis::Text(faults) => faulty_told(alloc, text, faults),
         Diagnosis::Fails(peak) => peak_told(alloc, text, judged, peak, proposals),
-        _ => program_told(alloc, text, judged, all),
+        Diagnosis::NotLowered(told) => program_told(alloc, text, &told.program, judged, all),
+        Diagnosis::TooManyCombinations(throng) => {
+            program_told(alloc, text, throng.weighed.program(), judged, all)
+        }
+        Diagnosis::Accepted(census) => {
+            program_told(alloc, text, census.accepted.program(), judged, all)
+        }
     }
 }

@@ -5,9 +5,9 @@ use chr_base::atom::SymbolId;
 use chr_base::program::Program;
 use chr_base::weight::DEFAULT_WEIGHT;
 use chr_diagnosis::{NamedProgram, told_rule};
+use chr_faults::push_number;
 use chr_weighing::Cycle;
 use std::alloc::{AllocError, Global};
-use std::fmt::Write;
 
 /// Adds a line with the clause that gives the symbol its weight, where it isn't the default one.
 fn push_declared(out: &mut String, program: &Program, symbol: SymbolId) -> Result<(), AllocError> {
@@ -24,7 +24,9 @@ fn push_declared(out: &mut String, program: &Program, symbol: SymbolId) -> Resul
 
 /// Adds the weights of a program that lowers.
 pub(crate) fn push_found(out: &mut String, program: &Program) -> Result<(), AllocError> {
-    out.push_str("Each rule does so with these weights in place of all that are declared:\n")?;
+    out.push_str(
+        "With these weights in place of all that are declared each rule lowers the weight:\n",
+    )?;
     for place in 0..program.symbols() {
         if let Ok(symbol) = u16::try_from(place) {
             push_declared(out, program, SymbolId(symbol))?;
@@ -38,7 +40,7 @@ fn push_times(out: &mut String, times: u64) -> Result<(), AllocError> {
     if times == 1 {
         out.push_str("  once ")
     } else {
-        Ok(write!(out, "  {times} times ")?)
+        push_number(out, "  ", times, " times ")
     }
 }
 
@@ -54,7 +56,7 @@ fn push_applied(
         return Ok(());
     };
     push_times(out, times)?;
-    write!(out, "rule {number}: ")?;
+    push_number(out, "rule ", number as u64, ": ")?;
     rule.push_clause(alloc, out)?;
     out.push_str("\n")
 }

@@ -1,5 +1,6 @@
 //! The weights of a rule's atoms as they are told.
 
+use crate::sentences::symbol_text::push_symbol;
 use chr_base::atom::SymbolId;
 use chr_base::limits::MAX_WEIGHT;
 use chr_base::program::Program;
@@ -7,9 +8,9 @@ use chr_base::rule::Rule;
 use chr_base::term::Pattern;
 use chr_base::weight::Weight;
 use chr_diagnosis::ToldRule;
+use chr_faults::push_text;
 use chr_weights::NotLowered;
 use std::alloc::{AllocError, Global};
-use std::fmt::Write;
 
 /// Adds the weight of a symbol.
 fn push_weight(
@@ -24,6 +25,19 @@ fn push_weight(
     Ok(())
 }
 
+/// Adds an atom of a rule, and its weight.
+fn push_weighed(
+    alloc: Global,
+    out: &mut String,
+    told: ToldRule<'_>,
+    pattern: &Pattern,
+    paired: bool,
+) -> Result<(), AllocError> {
+    told.push_atom(alloc, out, pattern)?;
+    out.push_str(" weighs ")?;
+    push_weight(out, told.program, pattern.symbol, paired)
+}
+
 /// Adds the weight of each of these atoms of a rule, with both numbers where `paired`.
 pub(crate) fn push_weights(
     alloc: Global,
@@ -33,12 +47,10 @@ pub(crate) fn push_weights(
     patterns: &[Pattern],
     paired: bool,
 ) -> Result<(), AllocError> {
-    write!(out, "  {part}: ")?;
+    push_text(out, "  ", part, ": ")?;
     for (i, pattern) in patterns.iter().enumerate() {
         out.push_str(if i == 0 { "" } else { ", " })?;
-        told.push_atom(alloc, out, pattern)?;
-        out.push_str(" weighs ")?;
-        push_weight(out, told.program, pattern.symbol, paired)?;
+        push_weighed(alloc, out, told, pattern, paired)?;
     }
     out.push_str(if patterns.is_empty() { "nothing" } else { "" })
 }
@@ -105,7 +117,7 @@ fn push_lowering_clause(
     symbol: SymbolId,
     first: u64,
 ) -> Result<(), AllocError> {
-    out.push_str("This rule does so with `")?;
+    out.push_str("This rule lowers the weight with `")?;
     push_weight_clause(out, program, symbol, Weight { first, second: 0 })?;
     out.push_str("`\n")
 }
@@ -118,9 +130,9 @@ pub(crate) fn push_weight_clause(
     weight: Weight,
 ) -> Result<(), AllocError> {
     if usize::from(symbol.0) < program.symbols() {
-        let name = program.name_of(symbol);
-        let arity = program.arity_of(symbol);
-        write!(out, ":- chr_weight {name}/{arity} = ")?;
+        out.push_str(":- chr_weight ")?;
+        push_symbol(out, program, symbol)?;
+        out.push_str(" = ")?;
         weight.push_text(out, weight.is_paired())?;
         out.push_str(".")?;
     }

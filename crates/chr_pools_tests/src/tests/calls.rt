@@ -1,6 +1,6 @@
 //! A pool of columns under calls at random, beside a plain list and a bag.
 use crate::tests::beside::{Beside, Tally};
-use crate::tests::texts::{small_text, wide_text};
+use crate::tests::texts::small_text;
 use chr_testing::random::Random;
 use chr_testing::texts::weighed_of;
 use chr_weights::Weighed;
@@ -10,35 +10,17 @@ use std::process::Abort;
 /// The number of programs.
 const PROGRAMS: usize = 150;
 
-/// The number of programs with up to four heads a rule.
-const WIDE_PROGRAMS: usize = 150;
-
 /// The calls of each sequence.
 const CALLS: usize = 40;
 
-/// A text at random, of rules with up to two heads or with up to four.
-fn text_of(rt: &impl Abort, alloc: Global, random: &mut Random, is_wide: bool) -> String {
-    if is_wide {
-        wide_text(rt, alloc, random)
-    } else {
-        small_text(rt, alloc, random)
-    }
-}
-
-/// `count` programs that lower.
-fn programs(
-    rt: &impl Abort,
-    alloc: Global,
-    random: &mut Random,
-    count: usize,
-    is_wide: bool,
-) -> Vec<Weighed> {
+/// [`PROGRAMS`] programs that lower.
+fn programs(rt: &impl Abort, alloc: Global, random: &mut Random) -> Vec<Weighed> {
     let mut programs = Vec::new(alloc);
-    for _ in 0..count.saturating_mul(20) {
-        if programs.len() == count {
+    for _ in 0..PROGRAMS * 20 {
+        if programs.len() == PROGRAMS {
             break;
         }
-        if let Some(weighed) = weighed_of(alloc, &text_of(rt, alloc, random, is_wide)) {
+        if let Some(weighed) = weighed_of(alloc, &small_text(rt, alloc, random)) {
             programs.push(weighed).expect(rt, "memory");
         }
     }
@@ -61,15 +43,9 @@ fn run_sequence(
     beside.tally
 }
 
-/// A sequence of calls for each of `count` programs but the last.
-fn run_sequences(
-    rt: &impl Abort,
-    alloc: Global,
-    random: &mut Random,
-    count: usize,
-    is_wide: bool,
-) -> Tally {
-    let programs = programs(rt, alloc, random, count, is_wide);
+/// A sequence of calls for each of the programs but the last.
+fn run_sequences(rt: &impl Abort, alloc: Global, random: &mut Random) -> Tally {
+    let programs = programs(rt, alloc, random);
     let mut all = Tally::default();
     for pair in programs.windows(2) {
         all.add(run_sequence(rt, alloc, random, &pair[0], &pair[1]));
@@ -90,23 +66,6 @@ const LEAST: Tally = Tally {
 
 #[test]
 fn calls_at_random(rt: HostRuntime) {
-    let all = run_sequences(&rt, rt.alloc(), &mut Random::new(9), PROGRAMS, false);
+    let all = run_sequences(&rt, rt.alloc(), &mut Random::new(9));
     assert!(rt; all.is_at_least(&LEAST), "{all:?}");
-}
-
-/// How often each thing has to come at least with up to four heads a rule.
-const LEAST_OF_WIDE: Tally = Tally {
-    there: 50,
-    removed: 50,
-    fired: 10,
-    taken: 10,
-    moved: 0,
-    steps: 20,
-    rests: 50,
-};
-
-#[test]
-fn calls_at_random_with_up_to_four_heads(rt: HostRuntime) {
-    let all = run_sequences(&rt, rt.alloc(), &mut Random::new(11), WIDE_PROGRAMS, true);
-    assert!(rt; all.is_at_least(&LEAST_OF_WIDE), "{all:?}");
 }

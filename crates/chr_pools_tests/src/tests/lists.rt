@@ -1,11 +1,11 @@
 //! What a plain list, a bag and a search through all steps say.
+use crate::tests::programs::steps::{after_step, steps};
+use crate::tests::programs::stores::add_atoms;
 use crate::tests::stores::{is_one, list_of, random_store};
 use chr_base::atom::Atom;
 use chr_base::bag::Bag;
 use chr_base::derivation::Step;
 use chr_base::rule::Rule;
-use chr_random_programs::steps::{after_step, steps};
-use chr_random_programs::stores::add_atoms;
 use chr_rewrite::pool::Pool;
 use chr_testing::random::Random;
 use std::alloc::Global;

@@ -1,15 +1,15 @@
 //! Stores of accepted programs end as `rest` ends them, whatever steps are chosen and whatever parts are rested first.
 use crate::tests::count;
 use crate::tests::ends::end_in_list;
+use crate::tests::programs::instances::Heads;
+use crate::tests::programs::steps::{after_step, steps};
+use crate::tests::programs::stores::{all_instances, parts, store_of_instances, values_of_rules};
 use crate::tests::stores::{copied, is_one, unite};
 use crate::tests::texts::small_text;
 use crate::tests::verdicts::{Counts, Verdicts, verdict_on};
 use chr_base::bag::Bag;
 use chr_base::derivation::{Derivation, Step};
 use chr_base::rule::Rule;
-use chr_random_programs::instances::Heads;
-use chr_random_programs::steps::{after_step, steps};
-use chr_random_programs::stores::{all_instances, parts, store_of_instances, values_of_rules};
 use chr_rewrite::replay::replay;
 use chr_testing::random::Random;
 use chr_testing::texts::weighed_of;

@@ -1,7 +1,7 @@
 //! Stores, and what a plain list says of them.
+use crate::tests::programs::stores;
 use chr_base::bag::Bag;
 use chr_base::rule::Rule;
-use chr_random_programs::stores;
 use chr_rewrite::list::ListPool;
 use chr_rewrite::pool::Pool;
 use chr_rewrite::resting::at_rest;

@@ -9,11 +9,11 @@ use Rattle.chr_device.specs.Devices.{ReadsOn}
 use Rattle.chr_ops.specs.Operations.{Operations}
 use Rattle.chr_report.specs.declared.block.Block.{Block}
 use Rattle.chr_report.specs.declared.blocks.Blocks.{Blocks}
-use Rattle.chr_report.specs.Served.{AreWholeLines}
+use Rattle.chr_answers.specs.Lines.{AreWholeLines}
 use Rattle.chr_report.specs.working.BlockLines.{lines_of}
 use Rattle.chr_report.specs.working.Continuing.{AnswersUpTo}
-use Rattle.chr_report.specs.working.Services.{held, served, IsBetweenLines}
-use Rattle.chr_report.specs.working.Serving.{AnswersFront}
+use Rattle.chr_answers.specs.Services.{held, served, IsBetweenLines}
+use Rattle.chr_answers.specs.Answered.{AnswersFront}
 
 -- the lines of blocks, one after another
 abbrev pub lines_of_all : List Block → List ℕ

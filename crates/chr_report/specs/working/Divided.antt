@@ -1,7 +1,9 @@
 -- Beginnings of an input, with or without its divider.
 use Rattle.std.specs.Prelude.{◌≡◌, ℕ, true, List, ◌++◌}
-use Rattle.chr_report.specs.Lines.{lines, text_of, commands_of}
-use Rattle.chr_report.specs.Served.{AreWholeLines, HasNoFeed, has_divider}
+use Rattle.chr_answers.specs.Lines.{lines}
+use Rattle.chr_report.specs.Inputs.{text_of, commands_of}
+use Rattle.chr_answers.specs.Lines.{AreWholeLines, HasNoFeed}
+use Rattle.chr_report.specs.Served.{has_divider}
 
 -- whole lines of program text: what comes after them goes on with it
 pub record AreText (front : List ℕ) : Type 0 where

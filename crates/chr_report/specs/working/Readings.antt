@@ -3,7 +3,7 @@ use Rattle.std.specs.Prelude.{IfSome}
 use Rattle.std.specs.Arc.{arc_value}
 use Rattle.chr_base.specs.declared.program.Program.{Program}
 use Rattle.chr_report.specs.declared.readers.Done.{Done}
-use Rattle.chr_report.specs.working.Ahead.{IsAhead}
+use Rattle.chr_answers.specs.Ahead.{IsAhead}
 use Rattle.chr_report.specs.working.BlockLines.{lines_of}
 
 -- what was read of a block is what its lines ask for

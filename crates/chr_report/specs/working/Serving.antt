@@ -11,18 +11,11 @@ use Rattle.chr_read.specs.declared.fault.ReadFault.{ReadFault}
 use Rattle.chr_report.specs.declared.running.Status.{Status}
 use Rattle.chr_report.specs.declared.running.Status.TheVariants.{Accepted}
 use Rattle.chr_report.specs.declared.wanted.Wanted.{Wanted}
-use Rattle.chr_report.specs.Lines.{lines, without_return}
-use Rattle.chr_report.specs.Answers.{AnswersAll}
+use Rattle.chr_answers.specs.Lines.{lines, without_return}
+use Rattle.chr_answers.specs.Answers.{AnswersAll}
 use Rattle.chr_report.specs.Outputs.{IsReadOutput}
-use Rattle.chr_report.specs.Served.{AreWholeLines, HasNoFeed}
-use Rattle.chr_report.specs.working.Answered.{AnswersLine}
-
--- `out` answers the whole lines `front`, and whatever comes after them is answered from `now` on
-abbrev pub AnswersFront :
-    List Declaration → List Rule → List ℕ → List Operations → List ℕ → List Operations → Type 0
-AnswersFront ds rules front old out now =
-    (more tail : List ℕ) → AnswersAll ds rules (lines more) now tail
-    → AnswersAll ds rules (lines (front ++ more)) old (out ++ tail)
+use Rattle.chr_answers.specs.Lines.{AreWholeLines, HasNoFeed}
+use Rattle.chr_answers.specs.Answered.{AnswersFront, AnswersLine}
 
 -- the answer of a line, which comes without its line feed, is written
 pub record SendsAnswer (ds : List Declaration) (rules : List Rule) (line : List ℕ) (old now : List Operations)

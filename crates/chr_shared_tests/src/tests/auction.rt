@@ -9,19 +9,19 @@
 //! - A messenger with a seat in either hall exchanges bids between the books, whenever and as often as it likes.
 //!
 //! In the end both books hold the same bids, and each hall closes its book with the receipt of a last settling. Then
-//! `chr_journals::stores_of_receipts` hands out what both receipts show: whatever the threads did and however the books
-//! were rested, there is one store that comes of given bids, and so the winners are the same.
+//! `stores_of_receipts` of `chr_acts::journals` hands out what both receipts show: whatever the threads did and however
+//! the books were rested, there is one store that comes of given bids, and so the winners are the same.
 ghost use Rattle.std.specs.Prelude.{◌≡◌, Some};
 ghost use Rattle.std.specs.List.{Contains};
 
+use crate::tests::common::{accepted, opening};
 use arrayvec::ArrayVec;
+use chr_acts::journals::stores_of_receipts;
 use chr_acts::{Book, OpList, Reply};
 use chr_base::atom::{Atom, SymbolId};
 use chr_base::bag::Bag;
-use chr_journals::stores_of_receipts;
 use chr_ops::{Op, OpId, Summary};
 use chr_shared::{Naming, Opening, Receipt, Seat, Settled, Shared};
-use chr_shared_testing::{accepted, opening};
 use chr_workers::OpenGate;
 use std::alloc::Global;
 use std::marker::Brand;

@@ -1,16 +1,44 @@
 //! Seats ask in turn, in one thread.
 ghost use Rattle.std.specs.Prelude.{◌≡◌};
 
-use crate::tests::calls::{Said, says};
+use crate::tests::common::op;
 use crate::tests::{opened, prepared};
-use chr_acts::{Book, CallFault, Entry};
-use chr_ops::Op;
+use chr_acts::{Book, CallFault, Entry, Reply};
+use chr_base::bag::Bag;
+use chr_ops::{Added, Op};
 use chr_shared::{Naming, Opening, Receipt, Seat, Shared, receipts_are_listed};
-use chr_shared_testing::op;
 use std::alloc::Global;
 use std::marker::Brand;
 use std::process::Abort;
 use std::sync::Wait;
+
+/// What is answered to a call.
+#[derive(Drop)]
+enum Said {
+    New,
+    Again,
+    /// The value of the only atom of the store.
+    Shown(Option<i64>),
+    Refused(u8),
+}
+
+/// The value of the only atom of a store.
+fn only_value(store: &Bag) -> Option<i64> {
+    match store.atoms() {
+        [atom] => atom.args.first().copied(),
+        _ => None,
+    }
+}
+
+/// Whether a reply says this.
+fn says(reply: &Reply, said: &Said) -> bool {
+    match (said, reply) {
+        (Said::New, Reply::Told(Added::New)) | (Said::Again, Reply::Told(Added::Again)) => true,
+        (Said::Shown(value), Reply::Shown(store)) => only_value(store) == *value,
+        (Said::Refused(number), Reply::Refused(refusal)) => refusal.number() == *number,
+        _ => false,
+    }
+}
 
 /// The number of a seat and of its receipt, and what is answered.
 type Row = (u32, u64, Said);

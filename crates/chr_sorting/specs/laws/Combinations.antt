@@ -1,8 +1,8 @@
 -- What the law of combinations says.
 use Rattle.std.specs.Prelude.{◌≡◌, ℕ, ℤ, List}
 use Rattle.chr_types.specs.OrderTypes.{In, Rises, AreValues}
-use Rattle.chr_sorts.specs.Sorts.{Sorts}
-use Rattle.chr_sorts.specs.Lists.{Cover}
+use Rattle.chr_confluence.specs.Sorts.{Sorts}
+use Rattle.chr_confluence.specs.SortLists.{Cover}
 use Rattle.chr_sorting.specs.SortedCaseLists.{AreCombinations}
 
 -- all combinations stand for all lists of 64-bit values

@@ -4,7 +4,7 @@ use Rattle.chr_base.specs.declared.limits.TheConstants.{MAX_ARITY}
 use Rattle.chr_base.specs.declared.rule.Rule.{Rule}
 use Rattle.chr_base.specs.declared.program.Program.{Program}
 use Rattle.chr_base.specs.Programs.{rules_of}
-use Rattle.chr_sorts.specs.Sorts.{Sorts}
+use Rattle.chr_confluence.specs.Sorts.{Sorts}
 use Rattle.chr_overlaps.specs.declared.overlap.Overlap.{Overlap}
 use Rattle.chr_overlaps.specs.declared.cases.Case.{Case}
 use Rattle.chr_sorting.specs.FinestSorts.{AreFinest}

@@ -1,7 +1,7 @@
 -- What the law of lists at one sort says.
 use Rattle.std.specs.Prelude.{◌≡◌, ℕ, ℤ, ◌+◌, ◌^◌, ◌≤◌, List, length}
 use Rattle.chr_types.specs.OrderTypes.{Rises, AreValues}
-use Rattle.chr_sorts.specs.Sorts.{Kind}
+use Rattle.chr_confluence.specs.Sorts.{Kind}
 use Rattle.chr_sorting.specs.SortedCaseLists.{AreListsAt}
 
 -- there is a list of all lists of n values, where there are 64-bit values for them and the constants

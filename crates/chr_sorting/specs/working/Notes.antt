@@ -9,7 +9,7 @@ use Rattle.chr_base.specs.declared.term.Comparison.{Comparison}
 use Rattle.chr_base.specs.declared.rule.Rule.{Rule}
 use Rattle.chr_base.specs.Rules.{heads_of}
 use Rattle.chr_types.specs.OrderTypes.{In}
-use Rattle.chr_sorts.specs.Sorts.{Sorts, Kind, ordered, equal, free, tells, sorted_terms, first_sort}
+use Rattle.chr_confluence.specs.Sorts.{Sorts, Kind, ordered, equal, free, tells, sorted_terms, first_sort}
 use Rattle.chr_sorting.specs.declared.notes.Note.{Note}
 use Rattle.chr_sorting.specs.declared.notes.Note.TheVariants.{Joined, Stands, Compared}
 use Rattle.chr_sorting.specs.FinestSorts.{position_of, sort_in}

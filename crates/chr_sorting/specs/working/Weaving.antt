@@ -4,8 +4,8 @@ use Rattle.std.specs.List.{flat_map}
 use Rattle.std.specs.Ordering.{int_eq}
 use Rattle.chr_types.specs.working.Search.{others}
 use Rattle.chr_types.specs.OrderTypes.{In, AreValues}
-use Rattle.chr_sorts.specs.Sorts.{Sorts, ordered}
-use Rattle.chr_sorts.specs.Lists.{sort_count}
+use Rattle.chr_confluence.specs.Sorts.{Sorts, ordered}
+use Rattle.chr_confluence.specs.SortLists.{sort_count}
 use Rattle.chr_sorting.specs.SortedCaseLists.{AreListsAt, MoreListsThan}
 use Rattle.chr_sorting.specs.declared.weave.SortLists.{SortLists}
 

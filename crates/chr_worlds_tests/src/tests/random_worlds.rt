@@ -11,17 +11,14 @@ mod resting;
 mod scene;
 mod seen;
 
-use crate::tests::asking::{ROUTES, accepted};
-use crate::tests::random_worlds::family::{
-    COUNTERS, Family, OTHER_COINS, OTHER_COUNTERS, OTHER_MINIMUM, OTHER_ROUTES,
-};
+use crate::tests::random_worlds::family::Family;
 use crate::tests::random_worlds::game::{Game, check};
 use crate::tests::random_worlds::model::Replica;
 use crate::tests::random_worlds::random::Random;
 use crate::tests::random_worlds::scene::Scene;
 use crate::tests::random_worlds::seen::Seen;
+use crate::tests::texts::accepted;
 use chr_join::Accepted;
-use chr_testing::texts::{COINS, MINIMUM};
 use chr_worlds::World;
 use std::alloc::Global;
 use std::process::Abort;
@@ -97,18 +94,11 @@ fn play(rt: &impl Abort, alloc: Global, game: &mut Game) {
     game.finish(rt, alloc);
 }
 
-/// Plays the worlds of a program, with the seeds from this one on. Each kind of reply has to come at least once in ten
+/// Plays the worlds of a family, with the seeds from this one on. Each kind of reply has to come at least once in ten
 /// worlds.
-fn play_all(
-    rt: &(impl Abort + Threads + Sync),
-    alloc: Global,
-    family: Family,
-    own: &str,
-    foreign: &str,
-    first: u64,
-) {
-    let own = accepted(rt, alloc, own);
-    let foreign = accepted(rt, alloc, foreign);
+fn play_all(rt: &(impl Abort + Threads + Sync), alloc: Global, family: Family, first: u64) {
+    let own = accepted(rt, alloc, family.text());
+    let foreign = accepted(rt, alloc, family.other_text());
     let mut seen = Seen::default();
     for place in 0..WORLDS {
         let seed = first.wrapping_add(place);
@@ -121,31 +111,20 @@ fn play_all(
 
 #[test]
 fn minimum_worlds_follow_the_model(rt: HostRuntime) {
-    let alloc = rt.alloc();
-    play_all(&rt, alloc, Family::Minimum, MINIMUM, OTHER_MINIMUM, 1);
+    play_all(&rt, rt.alloc(), Family::Minimum, 1);
 }
 
 #[test]
 fn worlds_of_routes_follow_the_model(rt: HostRuntime) {
-    let alloc = rt.alloc();
-    play_all(&rt, alloc, Family::Routes, ROUTES, OTHER_ROUTES, 10_001);
+    play_all(&rt, rt.alloc(), Family::Routes, 10_001);
 }
 
 #[test]
 fn worlds_of_coins_follow_the_model(rt: HostRuntime) {
-    let alloc = rt.alloc();
-    play_all(&rt, alloc, Family::Coins, COINS, OTHER_COINS, 20_001);
+    play_all(&rt, rt.alloc(), Family::Coins, 20_001);
 }
 
 #[test]
 fn worlds_of_counters_follow_the_model(rt: HostRuntime) {
-    let alloc = rt.alloc();
-    play_all(
-        &rt,
-        alloc,
-        Family::Counters,
-        COUNTERS,
-        OTHER_COUNTERS,
-        30_001,
-    );
+    play_all(&rt, rt.alloc(), Family::Counters, 30_001);
 }

@@ -1,6 +1,5 @@
 //! What is kept of what sets gained. Exchanges by what is kept carry the same operations as exchanges by summaries.
-use super::exchange::jumped;
-use super::{add, id, lacked, op, own_summary};
+use super::{add, id, jumped, lacked, op, own_summary};
 use chr_ops::{News, Op, OpId, OpSet};
 use std::alloc::Global;
 use std::process::Abort;
@@ -78,40 +77,6 @@ fn what_was_gained_is_known_for_each_taker(rt: HostRuntime) {
     for (place, (call, giver, taker, wanted)) in ROWS.iter().enumerate() {
         carry_out(&rt, alloc, &mut news, call);
         assert!(rt; is_known(&news, *giver, *taker, *wanted), "row {place}");
-    }
-}
-
-/// Whether it is known what a giver gained since a taker held all, where it gained `count` operations, one by one.
-fn is_kept(alloc: Global, count: u64) -> bool {
-    let mut news = News::new(alloc);
-    news.met(alloc, 0, 1);
-    for number in 0..count {
-        news.gained_one(0, id(1, number));
-    }
-    news.since(0, 1).is_some()
-}
-
-/// Whether it is known what a giver gained since a taker held all, where it gained `count` operations in one list.
-fn is_list_kept(rt: &impl Abort, alloc: Global, count: u64) -> bool {
-    let mut ops = Vec::new(alloc);
-    for number in 0..count {
-        ops.push(op(rt, alloc, id(1, number), &[0]))
-            .expect(rt, "memory");
-    }
-    let mut news = News::new(alloc);
-    news.met(alloc, 0, 1);
-    news.gained(0, &ops);
-    news.since(0, 1).is_some()
-}
-
-const KEPT: [(u64, bool); 4] = [(0, true), (4_096, true), (4_097, false), (9_000, false)];
-
-#[test]
-fn what_is_too_much_to_keep_is_forgotten(rt: HostRuntime) {
-    let alloc = rt.alloc();
-    for (count, kept) in KEPT {
-        assert!(rt; is_kept(alloc, count) == kept, "{count}");
-        assert!(rt; is_list_kept(&rt, alloc, count) == kept, "{count} at once");
     }
 }
 

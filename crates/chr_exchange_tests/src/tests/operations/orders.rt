@@ -1,13 +1,68 @@
 //! Sets that are told ids in some orders, beside a plain list of what they were told. Where memory runs out a test
 //! ends.
-use super::exchange::{jumped, lacks_just, left_out, ranges_by};
-use super::{bag, id, lacked, op, own_summary};
+use super::{bag, have_ids, id, jumped, lacked, op, own_summary, summary_of};
 use chr_ops::{AddFault, Added, Op, OpSet};
 use std::alloc::Global;
 use std::process::Abort;
 
 /// An operation of one atom: its origin, number and symbol.
 type Row = (u32, u64, u16);
+
+/// Whether the ids of the set that the ranges leave out are just these, in this order.
+fn lacks_just(
+    rt: &impl Abort,
+    alloc: Global,
+    set: &OpSet,
+    ranges: &[(u32, u64, u64)],
+    ids: &[(u32, u64)],
+) -> bool {
+    let summary = summary_of(rt, alloc, ranges);
+    have_ids(&lacked(rt, alloc, set, &summary), ids)
+}
+
+/// A range of an origin from 0 to 3 that a number gives, with numbers from 0 to 63.
+fn range_by(number: u64) -> (u32, u64, u64) {
+    let lo = (number >> 33) % 64;
+    let hi = (lo + (number >> 40) % 9).min(63);
+    (((number >> 50) % 4) as u32, lo, hi)
+}
+
+/// Up to twelve ranges that a seed gives, each by [`range_by`].
+fn ranges_by(rt: &impl Abort, alloc: Global, seed: u64) -> Vec<(u32, u64, u64)> {
+    let mut ranges = Vec::new(alloc);
+    let mut number = seed;
+    for _ in 0..seed % 13 {
+        number = jumped(number);
+        ranges.push(range_by(number)).expect(rt, "memory");
+    }
+    ranges
+}
+
+/// Whether one of the ranges has an id, tried one by one.
+fn is_covered(ranges: &[(u32, u64, u64)], id: (u32, u64)) -> bool {
+    for (origin, lo, hi) in ranges {
+        if *origin == id.0 && *lo <= id.1 && id.1 <= *hi {
+            return true;
+        }
+    }
+    false
+}
+
+/// The ids that the ranges leave out, tried one by one.
+fn left_out(
+    rt: &impl Abort,
+    alloc: Global,
+    ids: &[(u32, u64)],
+    ranges: &[(u32, u64, u64)],
+) -> Vec<(u32, u64)> {
+    let mut left = Vec::new(alloc);
+    for id in ids {
+        if !is_covered(ranges, *id) {
+            left.push(*id).expect(rt, "memory");
+        }
+    }
+    left
+}
 
 /// A set, and the operations that it was told and took, in the order in which they came.
 #[derive(Drop)]
@@ -79,7 +134,7 @@ impl Told {
     fn lacks_as_told(&self, rt: &impl Abort, alloc: Global, seed: u64) -> bool {
         let own = lacked(rt, alloc, &self.set, &own_summary(rt, alloc, &self.set));
         let ids = self.ids(rt, alloc);
-        let ranges = ranges_by(rt, alloc, seed, 0);
+        let ranges = ranges_by(rt, alloc, seed);
         let left = left_out(rt, alloc, &ids, &ranges);
         own.is_empty()
             && lacks_just(rt, alloc, &self.set, &[], &ids)

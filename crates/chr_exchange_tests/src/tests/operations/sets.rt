@@ -56,15 +56,6 @@ fn is_missing(set: &OpSet, id: OpId) -> bool {
     set.get(id).is_none()
 }
 
-/// The set of operations with these numbers of origin 1, each of one atom, added one by one.
-fn set_of_numbers(rt: &impl Abort, alloc: Global, numbers: &[u64]) -> OpSet {
-    let mut set = OpSet::new(alloc);
-    for number in numbers {
-        grow(rt, alloc, &mut set, id(1, *number));
-    }
-    set
-}
-
 /// Adds `operations` operations of origin 9, of 64 atoms each.
 fn add_full(rt: &impl Abort, alloc: Global, set: &mut OpSet, operations: u64) {
     for number in 0..operations {
@@ -111,45 +102,6 @@ fn expect_ranges(rt: &impl Abort, alloc: Global, set: &OpSet, ends: &[(u32, u64,
     assert!(rt; has_ranges(&copied(rt, alloc, &summary), ends));
 }
 
-/// Whether the set has a bag of these atoms under this id.
-fn has(rt: &impl Abort, alloc: Global, set: &OpSet, id: OpId, symbols: &[u16]) -> bool {
-    match set.get(id) {
-        Some(held) => held.is_same(&bag(rt, alloc, symbols)),
-        None => false,
-    }
-}
-
-/// Whether the operation has this id and `atoms` atoms.
-fn is_of(op: &Op, id: OpId, atoms: usize) -> bool {
-    op.id() == id && op.bag().len() == atoms
-}
-
-/// Bags that are told under one id in turn, and what is answered.
-const ONCE: [(&[u16], Result<Added, AddFault>); 4] = [
-    (&[5, 6], Ok(Added::New)),
-    (&[5, 6], Ok(Added::Again)),
-    (&[6, 5], Ok(Added::Again)),
-    (
-        &[5],
-        Err(AddFault::Clash(OpId {
-            origin: 1,
-            number: 1,
-        })),
-    ),
-];
-
-#[test]
-fn an_operation_counts_once(rt: HostRuntime) {
-    let alloc = rt.alloc();
-    let mut set = OpSet::new(alloc);
-    for (symbols, answer) in ONCE {
-        assert!(rt; adds(&rt, alloc, &mut set, id(1, 1), symbols, answer));
-    }
-    assert!(rt; tells(&set, 2));
-    assert!(rt; has(&rt, alloc, &set, id(1, 1), &[6, 5]));
-    assert!(rt; is_missing(&set, id(1, 2)));
-}
-
 const HELD: [(u32, u64); 4] = [(1, GREATEST), (1, 0), (0, 5), (1, 1)];
 
 const HELD_RANGES: [(u32, u64, u64); 3] = [(0, 5, 5), (1, 0, 1), (1, GREATEST, GREATEST)];
@@ -159,23 +111,11 @@ fn what_a_summary_leaves_out_is_lacked(rt: HostRuntime) {
     let alloc = rt.alloc();
     let set = set_of(&rt, alloc, &HELD);
     expect_ranges(&rt, alloc, &set, &HELD_RANGES);
-    set.told_has_values();
     let summary = own_summary(&rt, alloc, &set);
     assert!(rt; lacked(&rt, alloc, &set, &summary).is_empty());
     let middle = summary_of(&rt, alloc, &[(1, 1, 1)]);
     let lacked = lacked(&rt, alloc, &set, &middle);
     assert!(rt; have_ids(&lacked, &[(0, 5), (1, 0), (1, GREATEST)]));
-}
-
-#[test]
-fn an_operation_that_is_ready_to_be_shared_is_taken_in(rt: HostRuntime) {
-    let alloc = rt.alloc();
-    let told = op(&rt, alloc, id(1, 1), &[5, 6]);
-    let ready = told.ready_to_share(alloc).expect(&rt, "memory");
-    assert!(rt; is_of(&ready, id(1, 1), 2));
-    let mut set = OpSet::new(alloc);
-    add(&rt, &mut set, ready);
-    assert!(rt; has(&rt, alloc, &set, id(1, 1), &[5, 6]));
 }
 
 /// Whether these atoms are those of the operations that the set lacks.
@@ -184,22 +124,6 @@ fn are_fresh(rt: &impl Abort, alloc: Global, set: &OpSet, ops: &[Op], symbols: &
     let list = Bag::of(list).expect(rt, "memory");
     let fresh = set.fresh_atoms(alloc, ops).expect(rt, "memory");
     fresh.is_same(&bag(rt, alloc, symbols)) && list.is_same(&fresh)
-}
-
-/// Whether each of these operations is new to the set and those before it.
-fn are_new(rt: &impl Abort, alloc: Global, set: &OpSet, list: &[(u32, u64, u16)]) -> bool {
-    set.are_new(alloc, &ops(rt, alloc, list))
-        .expect(rt, "memory")
-}
-
-#[test]
-fn lists_are_of_new_operations_or_not(rt: HostRuntime) {
-    let alloc = rt.alloc();
-    let mut set = OpSet::new(alloc);
-    assert!(rt; adds(&rt, alloc, &mut set, id(1, 2), &[5], Ok(Added::New)));
-    assert!(rt; are_new(&rt, alloc, &set, &[(2, 2, 1), (1, 3, 0), (1, 1, 5)]));
-    assert!(rt; !are_new(&rt, alloc, &set, &[(1, 1, 5), (1, 2, 1)]));
-    assert!(rt; !are_new(&rt, alloc, &set, &[(1, 1, 5), (1, 1, 5)]));
 }
 
 #[test]
@@ -251,79 +175,4 @@ fn at_most_a_million_atoms_are_told(rt: HostRuntime) {
     assert!(rt; tells(&set, 999_999) && is_missing(&set, id(1, 1)));
     assert!(rt; adds(&rt, alloc, &mut set, id(1, 1), &[1], Ok(Added::New)));
     expect_full(&rt, alloc, &mut set, &two);
-}
-
-#[test]
-fn ranges_grow_at_both_ends_and_close_holes(rt: HostRuntime) {
-    let alloc = rt.alloc();
-    let mut set = set_of_numbers(&rt, alloc, &[4, 2]);
-    expect_ranges(&rt, alloc, &set, &[(1, 2, 2), (1, 4, 4)]);
-    grow(&rt, alloc, &mut set, id(1, 3));
-    expect_ranges(&rt, alloc, &set, &[(1, 2, 4)]);
-    grow(&rt, alloc, &mut set, id(1, 1));
-    expect_ranges(&rt, alloc, &set, &[(1, 1, 4)]);
-    grow(&rt, alloc, &mut set, id(1, 6));
-    expect_ranges(&rt, alloc, &set, &[(1, 1, 4), (1, 6, 6)]);
-    let ends = set_of_numbers(&rt, alloc, &[GREATEST, GREATEST - 1]);
-    expect_ranges(&rt, alloc, &ends, &[(1, GREATEST - 1, GREATEST)]);
-}
-
-/// Whether the number follows the last range.
-fn follows(ranges: &[(u32, u64, u64)], number: u64) -> bool {
-    match ranges.last() {
-        Some(last) => last.2.checked_add(1) == Some(number),
-        None => false,
-    }
-}
-
-/// Has the last range, if any, end with this number.
-fn lengthen(ranges: &mut Vec<(u32, u64, u64)>, number: u64) {
-    if let Some(last) = ranges.last_mut() {
-        last.2 = number;
-    }
-}
-
-/// The ranges of origin 1 as long as possible that numbers in order make, found one by one.
-fn plain_ranges(rt: &impl Abort, alloc: Global, sorted: &[u64]) -> Vec<(u32, u64, u64)> {
-    let mut ranges = Vec::new(alloc);
-    for number in sorted {
-        if follows(&ranges, *number) {
-            lengthen(&mut ranges, *number);
-        } else {
-            ranges.push((1, *number, *number)).expect(rt, "memory");
-        }
-    }
-    ranges
-}
-
-/// A number below 4001, which is a prime.
-fn jump(step: u64) -> u64 {
-    step.wrapping_mul(1_933) % 4_001
-}
-
-/// The numbers from 1 to 4000 but those that 7 divides, in an order that jumps about.
-fn scrambled(rt: &impl Abort, alloc: Global) -> Vec<u64> {
-    let mut numbers = Vec::new(alloc);
-    for step in 1..4_001_u64 {
-        let number = jump(step);
-        if number % 7 != 0 {
-            numbers.push(number).expect(rt, "memory");
-        }
-    }
-    numbers
-}
-
-fn sorted(numbers: Vec<u64>) -> Vec<u64> {
-    let mut numbers = numbers;
-    numbers.sort_unstable();
-    numbers
-}
-
-#[test]
-fn ids_in_any_order_make_the_same_ranges(rt: HostRuntime) {
-    let alloc = rt.alloc();
-    let numbers = scrambled(&rt, alloc);
-    let set = set_of_numbers(&rt, alloc, &numbers);
-    let ranges = plain_ranges(&rt, alloc, &sorted(numbers));
-    expect_ranges(&rt, alloc, &set, &ranges);
 }

@@ -2,7 +2,7 @@ use Rattle.std.proofs.Common.{ℕ, List, subst}
 use Rattle.std.specs.Prelude.{IfNone, IfSome}
 use Rattle.chr_weights.specs.WeighedPrograms.{rules_in}
 use Rattle.chr_confluence.specs.Unifiers.{IsMostGeneralUnifier, HasNoUnifier}
-use Rattle.chr_sorts.specs.SortedCases.{all_equations}
+use Rattle.chr_confluence.specs.SortedCases.{all_equations}
 use Rattle.chr_overlaps.specs.working.Unifiers.{classes_of}
 use Rattle.chr_overlaps.proofs.UnifiedOverlaps.{none_sorted, is_sorted}
 use Rattle.chr_overlaps.proofs.cases.sorted_unified.Goals as goal

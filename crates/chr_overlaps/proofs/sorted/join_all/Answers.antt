@@ -2,7 +2,7 @@ use Rattle.std.proofs.Common.{◌≡◌, ◌++◌, Some, None, map, sym, ap, ◌
 use Rattle.chr_base.specs.Rules.{heads_of}
 use Rattle.chr_confluence.specs.Overlaps.{equations, equations_of, variables_of}
 use Rattle.chr_confluence.specs.working.Solving.{solve}
-use Rattle.chr_sorts.specs.SortedCases.{guard_equations, equation_apart}
+use Rattle.chr_confluence.specs.SortedCases.{guard_equations, equation_apart}
 use Rattle.chr_overlaps.specs.working.Tables.{class_in}
 use Rattle.chr_overlaps.proofs.GuardEquations.{not_moved}
 use Rattle.chr_overlaps.proofs.Solutions.{solved_first, first_clash}

@@ -1,7 +1,7 @@
 use Rattle.std.proofs.Common.{ap, sym, subst, ◌∙◌}
 use Rattle.chr_confluence.specs.Unifiers.{IsMostGeneralUnifier}
 use Rattle.chr_confluence.specs.working.Solving.{solve}
-use Rattle.chr_sorts.specs.SortedCases.{all_equations}
+use Rattle.chr_confluence.specs.SortedCases.{all_equations}
 use Rattle.chr_overlaps.specs.declared.classes.Classes.{Classes}
 use Rattle.chr_overlaps.specs.working.Tables.{class_in}
 use Rattle.chr_overlaps.proofs.Solutions.{none_solve, some_solve}

@@ -1,18 +1,8 @@
-//! Rules whose atoms hang together by an argument, and others: parts and pools come to the store of one thread.
-use crate::tests::texts::{accepted, accepted_in};
-use crate::tests::workers::making::{Facts, board_of};
-use crate::tests::workers::resting::rest;
-use chr_base::bag::Bag;
-use chr_join::Accepted;
-use chr_replica::Board;
-use chr_workers::OpenGate;
+//! Rules whose atoms hang together by an argument, and others: the pools in which stores are kept.
+use crate::tests::texts::opened_in;
 use std::alloc::Global;
 use std::process::Abort;
-use std::sync::{Arc, Wait};
 use std::thread::Threads;
-
-/// This many operations tell more atoms than are settled at once.
-const MANY: u32 = 20;
 
 /// The most pools in which stores are kept.
 const MOST_POOLS: usize = 4;
@@ -56,72 +46,18 @@ const PROGRAMS: [(&str, usize); 7] = [
     ),
 ];
 
-/// What a board of a program shows that was told [`MANY`] operations and was rested.
-fn rested<R: Abort + Threads + Wait + Sync>(
-    rt: &R,
-    alloc: Global,
-    program: &Arc<Accepted>,
-    workers: u32,
-    parts: u32,
-) -> Bag {
-    let mut board: Board = board_of(rt, alloc, program, Facts::Mixed, MANY);
-    rest(rt, alloc, &mut board, workers, parts, &OpenGate);
-    board.show(alloc).ok().expect(rt, "a settled board")
+/// In how many pools a board of the program keeps its store, where it may take [`MOST_POOLS`].
+fn pools_of(rt: &(impl Abort + Threads + Sync), alloc: Global, text: &str) -> usize {
+    opened_in(rt, alloc, text, MOST_POOLS).pools()
 }
 
-/// `workers` workers come to the store of one thread, whatever the parts.
-fn come_to<R: Abort + Threads + Wait + Sync>(
-    rt: &R,
-    alloc: Global,
-    program: &Arc<Accepted>,
-    workers: u32,
-    alone: &Bag,
-) {
-    for parts in [1, 3, 64] {
-        let together = rested(rt, alloc, program, workers, parts);
-        assert!(rt; together.is_same(alone), "{workers} workers, {parts} parts");
-    }
-}
-
-/// Boards in several pools come to the store of one thread, too, whatever the number of workers.
-fn pools_come_to<R: Abort + Threads + Wait + Sync>(
-    rt: &R,
-    alloc: Global,
-    program: &Arc<Accepted>,
-    pools: usize,
-    alone: &Bag,
-) {
-    for workers in [1, 3, 16] {
-        let mut board: Board = board_of(rt, alloc, program, Facts::Mixed, MANY);
-        assert!(rt; board.pools() == pools);
-        rest(rt, alloc, &mut board, workers, 3, &OpenGate);
-        let together = board.show(alloc).ok().expect(rt, "a settled board");
-        assert!(rt; together.is_same(alone), "{workers} workers, {pools} pools");
-        let by_threads = board.show_by(rt, alloc).ok().expect(rt, "the same board");
-        assert!(rt;
-            by_threads.is_same(alone),
-            "{workers} workers, {pools} pools, by threads"
-        );
+fn expect_pools(rt: &(impl Abort + Threads + Sync), alloc: Global, rows: &[(&str, usize)]) {
+    for (text, pools) in rows {
+        assert!(rt; pools_of(rt, alloc, text) == *pools, "{text}");
     }
 }
 
 #[test]
-fn pools_come_to_the_store_of_one(rt: HostRuntime) {
-    for (text, pools) in PROGRAMS {
-        let alone = rested(&rt, rt.alloc(), &accepted(&rt, rt.alloc(), text), 1, 1);
-        let program = accepted_in(&rt, rt.alloc(), text, MOST_POOLS);
-        pools_come_to(&rt, rt.alloc(), &program, pools, &alone);
-    }
-}
-
-#[test]
-fn parts_come_to_the_store_of_one_thread(rt: HostRuntime) {
-    for (text, _) in PROGRAMS {
-        let program = accepted(&rt, rt.alloc(), text);
-        let alone = rested(&rt, rt.alloc(), &program, 1, 1);
-        assert!(rt; !alone.is_empty(), "{text}");
-        for workers in [1, 2, 4, 16] {
-            come_to(&rt, rt.alloc(), &program, workers, &alone);
-        }
-    }
+fn stores_are_kept_in_pools(rt: HostRuntime) {
+    expect_pools(&rt, rt.alloc(), &PROGRAMS);
 }

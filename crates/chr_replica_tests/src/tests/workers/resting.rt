@@ -2,7 +2,7 @@
 ghost use Rattle.std.specs.Prelude.{◌≡◌, ◌≤◌, true};
 
 use crate::tests::workers::gates::{Holds, Notes};
-use crate::tests::workers::making::{Facts, board, leasts, tell};
+use crate::tests::workers::making::{board, leasts, tell};
 use chr_base::limits::{MAX_PARTS, MAX_WORKERS};
 use chr_replica::Board;
 use chr_workers::{Gate, OpenGate, rest_board, rest_in_parts};
@@ -28,7 +28,7 @@ fn fits(number: u32, most: u32) -> bool
 }
 
 /// Rests a board of which no lease is out.
-pub fn rest<R: Abort + Threads + Wait + Sync, G: Gate>(
+fn rest<R: Abort + Threads + Wait + Sync, G: Gate>(
     rt: &R,
     alloc: Global,
     board: &mut Board,
@@ -114,7 +114,7 @@ fn all_parts_come_back_rested(rt: HostRuntime) {
 fn a_pool_at_rest_is_not_cut_again(rt: HostRuntime) {
     let mut board = board(&rt, rt.alloc(), MANY);
     rest(&rt, rt.alloc(), &mut board, 4, 16, &OpenGate);
-    tell(&rt, rt.alloc(), &mut board, Facts::Best, MANY);
+    tell(&rt, rt.alloc(), &mut board, MANY);
     let gate = Notes::new();
     rest(&rt, rt.alloc(), &mut board, 4, 16, &gate);
     assert!(rt; gate.have(0));

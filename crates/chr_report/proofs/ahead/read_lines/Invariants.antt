@@ -1,5 +1,5 @@
 use Rattle.std.proofs.Common.{All}
-use Rattle.chr_report.specs.working.Requests.{IsHeard}
+use Rattle.chr_answers.specs.Requests.{IsHeard}
 use Rattle.chr_report.proofs.ahead.read_lines.Given as goal
 
 abbrev pub invariant-loop-left : goal.invariant-loop-left

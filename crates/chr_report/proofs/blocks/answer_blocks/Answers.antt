@@ -6,7 +6,7 @@ use Rattle.chr_base.specs.Programs.{declarations, rules_of}
 use Rattle.chr_device.specs.Devices.{inner_of}
 use Rattle.chr_report.specs.working.Blocks.{left_of}
 use Rattle.chr_report.specs.working.Continuing.{AnswersUpTo}
-use Rattle.chr_report.specs.working.Services.{held, served, IsBetweenLines}
+use Rattle.chr_answers.specs.Services.{held, served, IsBetweenLines}
 use Rattle.chr_report.proofs.InBlocks.{answers_in_blocks, ends_in_blocks, none_answered, reads_in_blocks}
 use Rattle.chr_report.proofs.blocks.answer_blocks.Goals as goal
 

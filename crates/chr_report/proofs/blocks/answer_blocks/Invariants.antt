@@ -1,7 +1,7 @@
 use Rattle.std.specs.Prelude.{◌≡◌, string_bytes}
 use Rattle.chr_device.specs.Devices.{inner_of, has_failed}
 use Rattle.chr_report.specs.working.Blocks.{IsInBlocks}
-use Rattle.chr_report.specs.working.Services.{held, served}
+use Rattle.chr_answers.specs.Services.{held, served}
 use Rattle.chr_report.proofs.blocks.answer_blocks.Given as goal
 
 abbrev pub invariant-loop-block : goal.invariant-loop-block

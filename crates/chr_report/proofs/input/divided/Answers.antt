@@ -1,7 +1,8 @@
 use Rattle.std.proofs.Common.{◌≡◌, ◌-◌, ◌∷◌, [], ◌++◌, ap, sym, ◌∙◌, subst, take, length, rules, false}
 use Rattle.chr_report.specs.working.Divided.{Divides}
 use Rattle.chr_report.proofs.Cutting.{take_front}
-use Rattle.chr_report.proofs.Feeds.{ended_more, text_divides, text_grows}
+use Rattle.chr_answers.proofs.Feeds.{ended_more}
+use Rattle.chr_report.proofs.Texts.{text_divides, text_grows}
 use Rattle.chr_report.proofs.input.divided.Goals as goal
 
 pub returns-then-is_divider-clause-some : goal.returns-then-is_divider-clause-some

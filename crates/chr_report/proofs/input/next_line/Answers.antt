@@ -1,6 +1,6 @@
 use Rattle.std.proofs.Common.{◌∙◌, ap}
-use Rattle.chr_report.specs.Lines.{lines}
-use Rattle.chr_report.proofs.Feeds.{lines_more, lines_last}
+use Rattle.chr_answers.specs.Lines.{lines}
+use Rattle.chr_answers.proofs.Feeds.{lines_more, lines_last}
 use Rattle.chr_report.proofs.input.next_line.Goals as goal
 
 pub returns-in-Some-clause-lines : goal.returns-in-Some-clause-lines

@@ -1,4 +1,4 @@
-use Rattle.chr_report.proofs.Continuing.{slice_size}
+use Rattle.chr_report.proofs.Cutting.{slice_size}
 use Rattle.chr_report.proofs.Cutting.{Cut}
 use Rattle.chr_report.proofs.input.split.Given as goal
 

@@ -3,9 +3,9 @@ use Rattle.std.specs.Prelude.{string_bytes}
 use Rattle.chr_base.specs.Programs.{declarations, rules_of}
 use Rattle.chr_join.specs.AcceptedPrograms.{program_in}
 use Rattle.chr_report.specs.Outputs.{IsAnswered}
-use Rattle.chr_report.specs.working.Answered.{AnswersRest}
+use Rattle.chr_answers.specs.Answered.{AnswersRest}
 use Rattle.chr_report.specs.working.LinesLeft.{lines_left}
-use Rattle.chr_report.specs.working.Services.{held}
+use Rattle.chr_answers.specs.Services.{held}
 use Rattle.chr_report.proofs.Outcomes.{if_ok}
 use Rattle.chr_report.proofs.running.answer_program.Goals as goal
 

@@ -4,7 +4,7 @@ use Rattle.std.specs.Io.KnownBytes.{Appends}
 use Rattle.chr_base.specs.Programs.{declarations, rules_of}
 use Rattle.chr_device.specs.Devices.{inner_of}
 use Rattle.chr_join.specs.AcceptedPrograms.{program_in}
-use Rattle.chr_report.specs.working.Services.{held}
+use Rattle.chr_answers.specs.Services.{held}
 use Rattle.chr_report.specs.working.Serving.{AnswersInput}
 use Rattle.chr_report.proofs.Conversing.{program_served}
 use Rattle.chr_report.proofs.Outcomes.{if_ok}

@@ -1,7 +1,7 @@
 use Rattle.std.proofs.Common.{◌∙◌, ap, length}
 use Rattle.std.specs.Prelude.{string_bytes}
 use Rattle.chr_base.specs.Programs.{rules_of}
-use Rattle.chr_report.specs.working.Services.{held}
+use Rattle.chr_answers.specs.Services.{held}
 use Rattle.chr_report.proofs.Conversing.{program_opened}
 use Rattle.chr_report.proofs.running.opening.Goals as goal
 

@@ -2,7 +2,8 @@ use Rattle.std.proofs.Common.{sym, subst}
 use Rattle.std.specs.Prelude.{string_bytes}
 use Rattle.chr_report.specs.declared.judging.Judged.TheVariants as judged
 use Rattle.chr_report.specs.declared.running.Status.TheVariants.{Accepted, Refused}
-use Rattle.chr_report.specs.Lines.{lines, commands_of}
+use Rattle.chr_answers.specs.Lines.{lines}
+use Rattle.chr_report.specs.Inputs.{commands_of}
 use Rattle.chr_report.specs.Outputs.{asked, IsReadOutput}
 use Rattle.chr_report.specs.working.Judged.{IsJudgedText}
 use Rattle.chr_report.specs.working.LinesLeft.{lines_left}

@@ -4,9 +4,9 @@ use Rattle.std.specs.Io.KnownBytes.{Appends}
 use Rattle.chr_base.specs.Programs.{declarations, rules_of}
 use Rattle.chr_device.specs.Devices.{AppendsPart}
 use Rattle.chr_join.specs.AcceptedPrograms.{program_in}
-use Rattle.chr_report.specs.Lines.{without_return}
-use Rattle.chr_report.specs.working.Answered.{AnswersLine}
-use Rattle.chr_report.specs.working.Services.{held, served}
+use Rattle.chr_answers.specs.Lines.{without_return}
+use Rattle.chr_answers.specs.Answered.{AnswersLine}
+use Rattle.chr_answers.specs.Services.{held, served}
 use Rattle.chr_report.specs.working.Serving.{AnswersChunk}
 use Rattle.chr_report.proofs.Pieces.{Gathers, chunk_done, gathers_one, gathered_sent, gathered_whole, part_done}
 use Rattle.chr_replica.proofs.Outcomes.{on_err}

@@ -1,6 +1,6 @@
 use Rattle.std.specs.Prelude.{◌≡◌, ◌++◌, length, string_bytes}
 use Rattle.chr_base.specs.Programs.{declarations, rules_of}
-use Rattle.chr_report.specs.working.Services.{held, served, IsBetweenLines}
+use Rattle.chr_answers.specs.Services.{held, served, IsBetweenLines}
 use Rattle.chr_report.proofs.Pieces.{Gathers}
 use Rattle.chr_report.proofs.serving.answer_chunk.Given as goal
 

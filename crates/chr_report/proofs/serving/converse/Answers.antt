@@ -3,14 +3,14 @@ use Rattle.std.specs.Io.KnownBytes.{Appends}
 use Rattle.chr_base.specs.Programs.{declarations, rules_of}
 use Rattle.chr_device.specs.Devices.{AppendsPart}
 use Rattle.chr_join.specs.AcceptedPrograms.{program_in, weighed_of}
-use Rattle.chr_report.specs.working.Services.{held, served}
+use Rattle.chr_answers.specs.Services.{held, served}
 use Rattle.chr_report.specs.working.Serving.{AnswersChunk, AnswersInput, AnswersPart, AnswersFrontRead, IsCut}
 use Rattle.chr_report.specs.working.Serving.{SendsAnswer}
 use Rattle.chr_report.proofs.Outcomes.{if_ok}
 use Rattle.chr_replica.proofs.Outcomes.{on_err}
 use Rattle.chr_report.proofs.Pieces.{if_err}
 use Rattle.chr_report.proofs.Conversing.{at_end, breaks_first, ended, ends_early, stops}
-use Rattle.chr_report.proofs.Shortened.{HoldsRead, cut_for, holds_more, holds_part, sends_for}
+use Rattle.chr_report.proofs.Holding.{HoldsRead, cut_for, holds_more, holds_part, sends_for}
 use Rattle.chr_report.proofs.serving.converse.Goals as goal
 
 pub wait-requires : goal.wait-requires

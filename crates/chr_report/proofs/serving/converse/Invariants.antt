@@ -1,7 +1,7 @@
 use Rattle.std.specs.Prelude.{◌≡◌}
 use Rattle.chr_base.specs.Programs.{declarations, rules_of}
-use Rattle.chr_report.specs.working.Services.{held, served, IsBetweenLines}
-use Rattle.chr_report.proofs.Shortened.{HoldsRead}
+use Rattle.chr_answers.specs.Services.{held, served, IsBetweenLines}
+use Rattle.chr_report.proofs.Holding.{HoldsRead}
 use Rattle.chr_report.proofs.serving.converse.Given as goal
 
 abbrev pub invariant-loop-turn : goal.invariant-loop-turn

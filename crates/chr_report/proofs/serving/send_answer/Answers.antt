@@ -2,9 +2,9 @@ use Rattle.std.proofs.Common.{◌≡◌, [], inr, rules, subst}
 use Rattle.std.specs.Prelude.{string_bytes}
 use Rattle.chr_base.specs.Programs.{declarations, rules_of}
 use Rattle.chr_device.specs.Devices.{AppendsPart}
-use Rattle.chr_report.specs.Lines.{without_return}
-use Rattle.chr_report.specs.working.Answered.{AnswersLine}
-use Rattle.chr_report.specs.working.Services.{held, served}
+use Rattle.chr_answers.specs.Lines.{without_return}
+use Rattle.chr_answers.specs.Answered.{AnswersLine}
+use Rattle.chr_answers.specs.Services.{held, served}
 use Rattle.chr_report.specs.working.Serving.{SendsAnswer}
 use Rattle.chr_report.proofs.Pieces.{if_err}
 use Rattle.chr_report.proofs.serving.send_answer.Goals as goal

@@ -5,7 +5,7 @@ use Rattle.chr_base.specs.Programs.{declarations, rules_of}
 use Rattle.chr_device.specs.Devices.{AppendsPart}
 use Rattle.chr_join.specs.AcceptedPrograms.{program_in, weighed_of}
 use Rattle.chr_report.specs.declared.running.Status.TheVariants.{Accepted}
-use Rattle.chr_report.specs.working.Services.{held}
+use Rattle.chr_answers.specs.Services.{held}
 use Rattle.chr_report.specs.working.Serving.{AnswersInput, AnswersFrontRead, AnswersCommands, WritesText}
 use Rattle.chr_report.specs.working.Serving.{WritesTextPart}
 use Rattle.chr_report.proofs.Outcomes.{if_ok}

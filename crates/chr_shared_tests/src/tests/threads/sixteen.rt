@@ -1,11 +1,11 @@
 //! Sixteen seats tell ten operations each, in threads of their own, and the first of them rests the book.
 ghost use Rattle.std.specs.Prelude.{◌≡◌};
 
+use crate::tests::common::{op, rest_and_close, rests_at};
 use crate::tests::{opened, prepared};
 use chr_acts::{Act, Book, Entry, Reply};
 use chr_ops::Added;
 use chr_shared::{MAX_SEATS, Naming, Opening, Seat, Settled, Shared};
-use chr_shared_testing::{op, rest_and_close, rests_at};
 use std::alloc::Global;
 use std::marker::Brand;
 use std::process::Abort;

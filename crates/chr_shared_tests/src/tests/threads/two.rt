@@ -2,11 +2,11 @@
 ghost use Rattle.std.specs.Prelude.{◌≡◌};
 
 use crate::tests::calls::tell;
+use crate::tests::common::{op, rests_at};
 use crate::tests::threads::gates::{Holds, waits};
 use crate::tests::{opened, prepared};
 use chr_ops::Op;
 use chr_shared::{Naming, Opening, Seat, Settled, Shared};
-use chr_shared_testing::{op, rests_at};
 use std::alloc::Global;
 use std::marker::Brand;
 use std::process::Abort;

@@ -1,6 +1,6 @@
 use Rattle.std.proofs.Common.{◌≡◌, ◌∙◌, ◌∷◌, [], ◌++◌, ◌-◌, if◌then◌else◌, nat_le, ap, get_or, ℕ}
 use Rattle.chr_confluence.specs.Overlaps.{variables_of}
-use Rattle.chr_sorts.specs.Sorts.{first_sort}
+use Rattle.chr_confluence.specs.Sorts.{first_sort}
 use Rattle.chr_overlaps.specs.working.Unifiers.{classes_of}
 use Rattle.chr_sorting.specs.working.Notes.{placed_heads}
 use Rattle.chr_sorting.proofs.ClassSorts.{next_sort}

@@ -1,5 +1,5 @@
 use Rattle.std.proofs.Common.{◌≡◌, map, take}
-use Rattle.chr_sorts.specs.SortedCases.{joint_sort}
+use Rattle.chr_confluence.specs.SortedCases.{joint_sort}
 use Rattle.chr_sorting.specs.FinestSorts.{sorts_of}
 use Rattle.chr_sorting.proofs.classes.class_sorts.Given as goal
 

@@ -1,6 +1,6 @@
 use Rattle.std.proofs.Common.{arith, ◌≡◌, ◌+◌, ◌∷◌, ◌++◌, [], get_or, take, ap, sym, ◌∙◌}
 use Rattle.std.proofs.lemmas.List.{take_more}
-use Rattle.chr_sorts.specs.Lists.{sort_count}
+use Rattle.chr_confluence.specs.SortLists.{sort_count}
 use Rattle.chr_sorting.proofs.MoreCombinations.{counted_same, counted_other}
 use Rattle.chr_sorting.proofs.combinations.count_of.Goals as goal
 use Rattle.chr_sorting.proofs.combinations.count_of.Goals.{then-class-sort, else-class-sort}

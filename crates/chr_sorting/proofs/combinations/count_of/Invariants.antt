@@ -1,5 +1,5 @@
 use Rattle.std.proofs.Common.{◌≡◌, ◌≤◌, take}
-use Rattle.chr_sorts.specs.Lists.{sort_count}
+use Rattle.chr_confluence.specs.SortLists.{sort_count}
 use Rattle.chr_sorting.proofs.combinations.count_of.Given as goal
 
 abbrev pub invariant-loop-class : goal.invariant-loop-class

@@ -2,7 +2,7 @@ use Rattle.std.proofs.Common.{◌∷◌, ◌++◌, [], get_or, take, map, refl, 
 use Rattle.std.proofs.lemmas.List.{take_more}
 use Rattle.std.proofs.lemmas.Bool.{eqb-true}
 use Rattle.chr_types.specs.OrderTypes.{In}
-use Rattle.chr_sorts.specs.Lists.{sort_count}
+use Rattle.chr_confluence.specs.SortLists.{sort_count}
 use Rattle.chr_sorting.specs.FinestSorts.{sorts_of, kind_of}
 use Rattle.chr_sorting.specs.working.Weaving.{AreListsOf, held}
 use Rattle.chr_types.proofs.Members.{in_at}

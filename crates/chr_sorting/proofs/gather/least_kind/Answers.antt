@@ -4,7 +4,7 @@ use Rattle.chr_sorting.specs.working.Notes.{IsBelow, IsLeastKind}
 use Rattle.std.specs.Prelude.{length}
 use Rattle.chr_sorting.proofs.Joining.{sort_here}
 use Rattle.chr_sorting.proofs.LeastKinds.{step_raised, step_elsewhere, step_other}
-use Rattle.chr_sorts.specs.Sorts.{Kind}
+use Rattle.chr_confluence.specs.Sorts.{Kind}
 use Rattle.chr_sorting.proofs.gather.least_kind.Goals as goal
 use Rattle.chr_sorting.proofs.gather.least_kind.Goals.{in-Compared+then-sorts-position, in-Compared+else-sorts-position}
 use Rattle.chr_sorting.proofs.gather.least_kind.Goals.{in_default}

@@ -1,5 +1,5 @@
 use Rattle.std.proofs.Common.{◌++◌, [], length, map, sym, ap, subst, ◌∙◌, arith, List, ℤ}
-use Rattle.chr_sorts.specs.Sorts.{equal}
+use Rattle.chr_confluence.specs.Sorts.{equal}
 use Rattle.chr_sorting.specs.SortedCaseLists.{AreListsAt}
 use Rattle.chr_sorting.specs.working.Blocks.{lists_behind}
 use Rattle.chr_sorting.proofs.ListsThere.{equal_lists, more_blocks}

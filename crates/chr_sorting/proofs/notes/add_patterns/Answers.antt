@@ -1,5 +1,5 @@
 use Rattle.std.proofs.Common.{◌++◌, ap, ◌∙◌}
-use Rattle.chr_sorts.specs.Sorts.{terms_from}
+use Rattle.chr_confluence.specs.Sorts.{terms_from}
 use Rattle.chr_sorting.specs.FinestSorts.{position_of}
 use Rattle.chr_sorting.proofs.Listing.{pattern_placed}
 use Rattle.chr_sorting.proofs.notes.add_patterns.Goals as goal

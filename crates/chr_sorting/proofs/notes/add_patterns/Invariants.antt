@@ -1,5 +1,5 @@
 use Rattle.std.proofs.Common.{◌≡◌, ◌++◌, take}
-use Rattle.chr_sorts.specs.Sorts.{sorted_terms}
+use Rattle.chr_confluence.specs.Sorts.{sorted_terms}
 use Rattle.chr_sorting.specs.working.Notes.{numbering}
 use Rattle.chr_sorting.proofs.notes.add_patterns.Given as goal
 

@@ -1,5 +1,5 @@
 use Rattle.std.proofs.Common.{◌≡◌, ◌++◌, ap, ◌∙◌, sym, map, append_assoc}
-use Rattle.chr_sorts.specs.Sorts.{sorted_terms}
+use Rattle.chr_confluence.specs.Sorts.{sorted_terms}
 use Rattle.chr_sorting.specs.working.Notes.{numbering, placed_heads, term_note, guard_notes}
 use Rattle.chr_sorting.proofs.notes.add_rule.Goals as goal
 

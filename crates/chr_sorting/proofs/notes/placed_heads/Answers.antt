@@ -1,6 +1,6 @@
 use Rattle.std.proofs.Common.{◌++◌, ◌∙◌, sym}
-use Rattle.chr_sorts.specs.Sorts.{sorted_terms}
-use Rattle.chr_sorts.proofs.Places.{sorted-append}
+use Rattle.chr_confluence.specs.Sorts.{sorted_terms}
+use Rattle.chr_confluence.proofs.SortPlaces.{sorted-append}
 use Rattle.chr_sorting.specs.working.Notes.{numbering}
 use Rattle.chr_sorting.proofs.notes.placed_heads.Goals as goal
 

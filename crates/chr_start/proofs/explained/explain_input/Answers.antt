@@ -1,5 +1,6 @@
 use Rattle.std.proofs.Common.{◌≡◌, rules, subst}
-use Rattle.chr_report.specs.Lines.{lines, text_of}
+use Rattle.chr_answers.specs.Lines.{lines}
+use Rattle.chr_report.specs.Inputs.{text_of}
 use Rattle.chr_report.specs.Wires.{reader_of}
 use Rattle.chr_start.proofs.VerdictEnds.{verdict_ends}
 use Rattle.chr_start.proofs.explained.explain_input.Goals as goal

@@ -1,4 +1,4 @@
-use Rattle.chr_claims.specs.Seats.{IsOf}
+use Rattle.chr_workers.specs.ClaimSeats.{IsOf}
 use Rattle.chr_workers.proofs.parts.work.Given as goal
 
 abbrev pub invariant-loop : goal.invariant-loop

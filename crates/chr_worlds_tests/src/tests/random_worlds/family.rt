@@ -2,6 +2,7 @@
 use crate::tests::random_worlds::random::Random;
 use chr_base::atom::Atom;
 use chr_testing::atoms::atom;
+use chr_testing::texts::{COINS, MINIMUM};
 
 /// A program, by its meaning.
 #[derive(Clone, Copy)]
@@ -16,19 +17,10 @@ pub enum Family {
     Counters,
 }
 
-pub const COUNTERS: &str =
+const ROUTES: &str = ":- chr_constraint path/3. path(X,Y,D) \\ path(X,Y,E) <=> D =< E | true.";
+
+const COUNTERS: &str =
     ":- chr_constraint low/1, high/1. low(X) \\ low(Y) <=> X =< Y | true. high(X) \\ high(Y) <=> X >= Y | true.";
-
-/// Programs that declare the same as the four families and have other rules.
-pub const OTHER_MINIMUM: &str = ":- chr_constraint min/1. min(X) \\ min(Y) <=> X >= Y | true.";
-
-pub const OTHER_ROUTES: &str =
-    ":- chr_constraint path/3. path(X,Y,D) \\ path(X,Y,E) <=> D >= E | true.";
-
-pub const OTHER_COINS: &str = ":- chr_constraint coin/0, note/0. coin, coin, coin <=> note.";
-
-pub const OTHER_COUNTERS: &str =
-    ":- chr_constraint low/1, high/1. low(X) \\ low(Y) <=> X >= Y | true.";
 
 /// A symbol that no program here declares.
 const UNKNOWN: u16 = 9;
@@ -85,6 +77,30 @@ fn counter(random: &mut Random) -> Atom {
 }
 
 impl Family {
+    /// The text of the program.
+    pub fn text(self) -> &'static str {
+        match self {
+            Family::Minimum => MINIMUM,
+            Family::Routes => ROUTES,
+            Family::Coins => COINS,
+            Family::Counters => COUNTERS,
+        }
+    }
+
+    /// A program that declares the same and has other rules.
+    pub fn other_text(self) -> &'static str {
+        match self {
+            Family::Minimum => ":- chr_constraint min/1. min(X) \\ min(Y) <=> X >= Y | true.",
+            Family::Routes => {
+                ":- chr_constraint path/3. path(X,Y,D) \\ path(X,Y,E) <=> D >= E | true."
+            }
+            Family::Coins => ":- chr_constraint coin/0, note/0. coin, coin, coin <=> note.",
+            Family::Counters => {
+                ":- chr_constraint low/1, high/1. low(X) \\ low(Y) <=> X >= Y | true."
+            }
+        }
+    }
+
     /// The atom that the rule with this number puts in the place of two, where it applies to them in this order.
     pub fn united(self, rule: u32, first: &Atom, second: &Atom) -> Option<Atom> {
         let is_first_less = value(first, 0) <= value(second, 0);

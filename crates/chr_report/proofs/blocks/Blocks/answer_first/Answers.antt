@@ -3,12 +3,12 @@ use Rattle.std.proofs.lemmas.List.Elements.{All-head}
 use Rattle.std.specs.Arc.{arc_value}
 use Rattle.chr_base.specs.Programs.{declarations, rules_of}
 use Rattle.chr_join.specs.AcceptedPrograms.{program_in}
-use Rattle.chr_report.specs.Served.{AreWholeLines}
+use Rattle.chr_answers.specs.Lines.{AreWholeLines}
 use Rattle.chr_report.specs.working.BlockLines.{lines_of}
-use Rattle.chr_report.specs.working.Continuing.{AnswersLines}
-use Rattle.chr_report.specs.working.Services.{held, served}
-use Rattle.chr_report.specs.working.Serving.{AnswersFront}
-use Rattle.chr_report.proofs.Continuing.{program_of_both, whole_answered}
+use Rattle.chr_answers.specs.Continuing.{AnswersLines}
+use Rattle.chr_answers.specs.Services.{held, served}
+use Rattle.chr_answers.specs.Answered.{AnswersFront}
+use Rattle.chr_answers.proofs.Continuing.{program_of_both, whole_answered}
 use Rattle.chr_report.proofs.InBlocks.{first_answered, none_first}
 use Rattle.chr_report.proofs.blocks.Blocks.answer_first.Goals as goal
 

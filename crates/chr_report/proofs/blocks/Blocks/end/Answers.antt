@@ -1,4 +1,4 @@
-use Rattle.chr_report.specs.working.Services.{served}
+use Rattle.chr_answers.specs.Services.{served}
 use Rattle.chr_report.proofs.blocks.Blocks.end.Goals as goal
 
 pub answer_all-requires-clause-ahead : goal.answer_all-requires-clause-ahead

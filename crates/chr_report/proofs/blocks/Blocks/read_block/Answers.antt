@@ -3,7 +3,7 @@ use Rattle.std.proofs.lemmas.List.{take-append-drop}
 use Rattle.std.proofs.lemmas.List.Elements.{All-push}
 use Rattle.chr_device.specs.Devices.{ReadsOn, inner_of}
 use Rattle.chr_report.specs.declared.block.Block.{Block}
-use Rattle.chr_report.specs.Served.{AreWholeLines}
+use Rattle.chr_answers.specs.Lines.{AreWholeLines}
 use Rattle.chr_report.specs.working.BlockLines.{lines_of}
 use Rattle.chr_report.specs.working.Blocks.{blocks_of, left_of, lines_of_all}
 use Rattle.chr_report.proofs.InBlocks.{left_after}

@@ -1,5 +1,6 @@
 use Rattle.std.proofs.Common.{rules, ◌<◌, length, sym, subst}
-use Rattle.chr_report.specs.working.Gathered.{IsGathered, ReachTogether}
+use Rattle.chr_report.specs.working.Gathered.{IsGathered}
+use Rattle.chr_answers.specs.Gathered.{ReachTogether}
 use Rattle.chr_report.proofs.Gathers.{some_shorter, tells_declared}
 use Rattle.chr_report.proofs.gathering.Gathering.rested.Goals as goal
 

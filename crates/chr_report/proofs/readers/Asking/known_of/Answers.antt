@@ -2,7 +2,7 @@ use Rattle.std.proofs.Common.{ap, sym, subst, ◌∙◌}
 use Rattle.std.specs.Arc.{arc_value}
 use Rattle.std.specs.Prelude.{IfSome}
 use Rattle.chr_join.specs.AcceptedPrograms.{program_in}
-use Rattle.chr_report.specs.working.Ahead.{IsAhead}
+use Rattle.chr_answers.specs.Ahead.{IsAhead}
 use Rattle.chr_report.specs.working.BlockLines.{lines_of}
 use Rattle.chr_report.proofs.readers.Asking.known_of.Goals as goal
 

@@ -1,5 +1,5 @@
 use Rattle.std.proofs.Common.{All}
-use Rattle.chr_claims.specs.Seats.{IsOf}
+use Rattle.chr_workers.specs.ClaimSeats.{IsOf}
 use Rattle.chr_workers.proofs.parts.fn.start.scope.Given as goal
 
 abbrev pub invariant-loop-seat : goal.invariant-loop-seat

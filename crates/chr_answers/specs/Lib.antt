@@ -1,0 +1,13 @@
+pub mod Lines
+pub mod Laws
+pub mod Replies
+pub mod Answers
+pub mod OneText
+pub mod Requests
+pub mod Services
+pub mod Answered
+pub mod Gathered
+pub mod Ahead
+pub mod Continuing
+pub mod Shortened
+pub mod working

@@ -1,5 +1,0 @@
-use Rattle.std.proofs.Common.{◌≡◌}
-use Rattle.chr_base_tests.proofs.tests.rows.ranges.expect_first.Given as goal
-
-abbrev pub invariant-loop-hash : goal.invariant-loop-hash
-invariant-loop-hash g l = l.index ≡ l.fn.index

@@ -1,4 +1,0 @@
-mod programs;
-mod rows;
-mod types;
-mod weights;

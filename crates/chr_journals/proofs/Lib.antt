@@ -1,4 +1,0 @@
-mod Placing
-mod Showing
-mod Telling
-mod Values

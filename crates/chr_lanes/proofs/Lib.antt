@@ -1,4 +1,0 @@
-pub mod Masks
-pub mod Signed
-pub mod Blocks
-pub mod Runs

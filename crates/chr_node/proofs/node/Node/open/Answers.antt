@@ -1,0 +1,9 @@
+use Rattle.chr_base.specs.Programs.{declarations}
+use Rattle.chr_node.proofs.Keeping.{opened}
+use Rattle.chr_node.proofs.node.Node.open.Goals as goal
+
+pub returns-clause-node : goal.returns-clause-node
+returns-clause-node g c =
+    opened (g.H.Holder.operations c.args.holder) (declarations (g.H.Holder.program c.args.holder))
+    (g.D.Disk.seen c.in-Ok.feed.disk) c.new.result.items c.args.origin c.args.last c.requires.untold
+    c.in-Ok.ensures.none c.new.ensures.items

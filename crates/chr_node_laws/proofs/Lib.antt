@@ -1,0 +1,4 @@
+pub mod Members
+pub mod Fronts
+pub mod Sets
+pub mod Growing

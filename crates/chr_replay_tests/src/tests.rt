@@ -1,4 +1,0 @@
-//! Shared books whose journals are replayed, and leases that come back.
-mod calls;
-mod leases;
-mod replay;

@@ -1,8 +1,0 @@
-use Rattle.std.proofs.lemmas.Result.{on_ok_weaker}
-use Rattle.chr_report.specs.working.Services.{AreIdle}
-use Rattle.chr_report.proofs.service.Service.settle.Goals as goal
-
-pub returns-else-is_worth_sharing-clause-rests : goal.returns-else-is_worth_sharing-clause-rests
-returns-else-is_worth_sharing-clause-rests g c =
-    let idle : AreIdle c.args.self.now c.args.replica = c.has_parts_out.ensures c.if-has_parts_out.false in
-    on_ok_weaker c.settle_alone.result (λ f. f idle) c.settle_alone.ensures.rests

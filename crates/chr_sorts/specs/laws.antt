@@ -1,5 +1,0 @@
--- What the laws of sorts say.
-pub mod Carrying
-pub mod SortedMaps
-pub mod SortedLists
-pub mod SortedCases
