@@ -23,6 +23,3 @@ pub mod Tidying
 pub mod Resuming
 pub mod Running
 pub mod Local
-pub mod Pooled
-pub mod Printed
-pub mod Portioned

@@ -1,3 +1,4 @@
 pub mod Rows
 pub mod Stepping
+pub mod Tables
 pub mod working

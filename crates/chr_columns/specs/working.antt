@@ -8,5 +8,3 @@ pub mod Listing
 pub mod Finding
 pub mod Sitting
 pub mod Candidates
-pub mod Printing
-pub mod Portions

@@ -8,6 +8,7 @@ ghost use Rattle.chr_base.specs.Rules.{HasInstance, HasNoStep, Step, StepOn};
 ghost use Rattle.chr_base.specs.Stores.{count, store_of};
 ghost use Rattle.chr_columns.specs.Rows.{AreApart};
 ghost use Rattle.chr_columns.specs.Stepping.{StepsOrStays};
+ghost use Rattle.chr_columns.specs.Tables.{stored_in};
 
 use crate::listing::{bag_of, push_stored};
 use crate::making::rested_for;
@@ -22,11 +23,11 @@ use chr_base::lists::push_copies;
 use chr_base::rule::Rule;
 use chr_plans::react::Standing;
 pub use chr_tables::hash::FIXED_SEED;
+use chr_tables::table::Table;
 use std::alloc::{AllocError, Global};
 use std::marker::Model;
 
 mod parts;
-mod texts;
 
 /// A pool: a store that rests in near linear time. Some atoms are at rest under the pool's rules, and sit in rows; the
 /// others are fresh. Contracts see the multiset of both.
@@ -145,6 +146,16 @@ impl Columns {
         ensures err { OnErr result (atoms.new.items ≡ atoms.old.items) }
     {
         push_stored(atoms, &self.rested.tables.tables, &self.fresh)
+    }
+
+    /// The tables in whose rows the atoms sit. None where some atom is fresh, and so in no table.
+    pub fn tables(&self) -> Option<&[Table]>
+        ensures { IfSome result (λ tables. stored_in tables.now ≡ self.now) }
+    {
+        if !self.fresh.as_slice().is_empty() {
+            return None;
+        }
+        Some(self.rested.tables.tables.as_slice())
     }
 
     /// An instance of the rule among the pool's atoms: its heads in place order, and the different rows in which they

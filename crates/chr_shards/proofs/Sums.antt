@@ -13,7 +13,7 @@ use Rattle.chr_base.specs.FinBag.{◌⊕◌, ◌⊖◌}
 use Rattle.chr_base.specs.Stores.{Store, store_of, count, size, stores_sum}
 use Rattle.chr_base.proofs.Stores.{count_plus, count_minus, count_empty, same_store, plus_empty, plus_comm, plus_assoc}
 use Rattle.chr_base.proofs.Stores.{size_plus, store_of-append}
-use Rattle.chr_columns.proofs.Pooled.{sum_more}
+use Rattle.chr_printing.proofs.Pooled.{sum_more}
 use Rattle.chr_shards.specs.working.Placed.{store_at}
 
 -- what no store has the sum has not

@@ -23,6 +23,7 @@ use chr_base::atom::Atom;
 use chr_base::bag::Bag;
 use chr_base::derivation::Step;
 use chr_columns::columns::Columns;
+use chr_printing::push_text;
 use chr_rewrite::replay::take_step;
 use chr_rewrite::resting::Stopped;
 use chr_weights::Weighed;
@@ -139,7 +140,7 @@ impl Shards {
     }
 
     /// Adds the text of the store at the end of a text: the text of its bag, but no bag is made. At most `threads`
-    /// threads work at it. False, and nothing is added, where pools can't do that ([`Columns::push_text`]).
+    /// threads work at it. False, and nothing is added, where that can't be done ([`push_text`]).
     pub fn push_text<R: Threads + Sync>(
         &self,
         rt: &R,
@@ -151,7 +152,7 @@ impl Shards {
             ++ store_text (declarations (program_of self.now.weighed)) self.now.store)) }
         ensures same { IfOk result (λ written. OnFalse written (out.new ≡ out.old)) }
     {
-        Columns::push_text(rt, alloc, threads, self.weighed.program(), &self.pools, out)
+        push_text(rt, alloc, threads, self.weighed.program(), &self.pools, out)
     }
 
     /// All atoms, those of each pool in the order of the arguments by which the rules join them.

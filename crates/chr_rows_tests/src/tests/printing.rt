@@ -2,6 +2,7 @@
 use chr_base::program::Program;
 use chr_base::rule::Rule;
 use chr_columns::columns::Columns;
+use chr_printing::push_text;
 use chr_testing::atoms::atoms;
 use chr_testing::texts::{program_of, rule_of};
 use std::alloc::Global;
@@ -76,7 +77,7 @@ fn written(
     pool: Columns,
 ) -> Option<String> {
     let mut out = String::new(alloc);
-    let written = Columns::push_text(rt, alloc, 1, program, &[pool], &mut out).expect(rt, "memory");
+    let written = push_text(rt, alloc, 1, program, &[pool], &mut out).expect(rt, "memory");
     if written { Some(out) } else { None }
 }
 

@@ -1,6 +1,0 @@
-use Rattle.std.proofs.lemmas.List.Sorted.{IsPermutation-map}
-use Rattle.chr_columns.specs.working.Printing.{flat_atom}
-use Rattle.chr_columns.proofs.flat.Flat.sort.Goals as goal
-
-pub returns : goal.returns
-returns c = IsPermutation-map (flat_atom c.args.self.now) _ _ c.sort_unstable.ensures.permutation

@@ -1,0 +1,3 @@
+pub mod Pooled
+pub mod Printed
+pub mod Portioned

@@ -1,0 +1,3 @@
+-- What private contracts and proofs speak of.
+pub mod Printing
+pub mod Portions
