@@ -9,8 +9,8 @@ use Rattle.chr_columns.specs.working.Resting.{stored}
 use Rattle.chr_columns.proofs.Owning.{nothing_fresh}
 use Rattle.chr_columns.proofs.columns.Columns.tables.Goals as goal
 
-pub returns-else-not-is_empty : goal.returns-else-not-is_empty
-returns-else-not-is_empty c =
+pub returns : goal.returns
+returns c =
     let rested = stored c.self.inside.rested in
     let none : c.self.inside.fresh.items ≡ [] = sym c.as_slice.ensures.value
     ∙ nothing_fresh c.is_empty.result c.as_slice.result.now c.if-not-is_empty.false c.is_empty.ensures in
