@@ -14,6 +14,7 @@ use Rattle.serde_json.specs.Written.{compact_text, items_text, number_text, comm
 use Rattle.chr_json.specs.declared.comma.Comma.{Comma}
 use Rattle.chr_json.specs.declared.comma.Comma.TheVariants as kind
 use Rattle.chr_json.specs.working.Compact.{comma_text, parted_text, parted_items}
+use Rattle.chr_json.proofs.Texts.{element_on}
 use Rattle.chr_json.proofs.Reading.{IsPlain, ArePlain, is_number, texts_read, whole}
 
 -- what stands before an element: a comma, where another stands before it
@@ -51,10 +52,6 @@ items_end kind.Spaced (item d ds) r = refl
 compact_end : (ds : Items) (r : List ℕ) → ends_word (items_text true ds ++ r) ≡ true
 compact_end no_items r = refl
 compact_end (item d ds) r = refl
-
--- what an element and what follows it come to, where both texts come to the same after the comma
-element_on : (f p later rest : List ℕ) → (f ++ (p ++ later)) ++ rest ≡ f ++ (p ++ (later ++ rest))
-element_on f p later rest = append_assoc f (p ++ later) rest ∙ ap (λ l. f ++ l) (append_assoc p later rest)
 
 lex-front : (k : Comma) (later : Bool) (r s : List ℕ) → lex between r ≡ lex between s
     → lex between (front k later ++ r) ≡ lex between (comma_if later ++ s)

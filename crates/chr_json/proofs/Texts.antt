@@ -21,7 +21,7 @@ later_more c ds d text rest next after so_far comma element =
     ∙ ap (λ l. l ++ after) (flat_map_more (λ e. c ++ parted_text c e) [] ds d)
 
 -- an element after its comma, and what follows it
-element_on : (c p later rest : List ℕ) → (c ++ (p ++ later)) ++ rest ≡ c ++ (p ++ (later ++ rest))
+pub element_on : (c p later rest : List ℕ) → (c ++ (p ++ later)) ++ rest ≡ c ++ (p ++ (later ++ rest))
 element_on c p later rest = append_assoc c (p ++ later) rest ∙ ap (λ l. c ++ l) (append_assoc p later rest)
 
 -- the bracket after the elements closes the array
