@@ -15,4 +15,5 @@ pub mod SortedConfluent
 pub mod Visits
 pub mod ConfluentJoins
 pub mod Counted
+mod CaseNumbers
 pub mod EqualSides

@@ -1,6 +1,7 @@
 pub mod Sides
 pub mod Coverages
 pub mod Verdicts
+pub mod Numbers
 pub mod AcceptedPrograms
 pub mod Explanations
 pub mod Once

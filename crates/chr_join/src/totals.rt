@@ -28,7 +28,7 @@ use std::alloc::{AllocError, Global};
 use std::thread::Threads;
 
 /// The number of cases of an overlap whose heads are made one. The rules are confluent, so all of them are joinable.
-fn count_cases(
+pub(crate) fn count_cases(
     alloc: Global,
     weighed: &Weighed,
     overlap: &Overlap,
@@ -113,7 +113,7 @@ fn new_guards(
 }
 
 /// Counts the guards of these overlaps that aren't counted yet, before the overlaps are looked at one by one.
-fn count_ahead(
+pub(crate) fn count_ahead(
     rt: &(impl Threads + Sync),
     alloc: Global,
     weighed: &Weighed,
