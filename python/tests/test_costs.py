@@ -40,6 +40,10 @@ SQUARE = 32.0
 SPACED, SPACED_TELLS = 1.5, 100_000
 """So many times what tells of so many atoms take may they take with a space after each comma, as Python writes them."""
 
+EXPLAINED, EXPLAINED_SYMBOLS = 3.0, 32
+"""So many times what the check of an accepted program of so many symbols with two rules each takes, with more than
+800,000 joint cases, may its explanation take."""
+
 THREAD_ROOMS = (16_000, 66_000, 131_000, 200_000, 300_000)
 """Limits under which the threads of a verdict get no heaps of their own, or not all of them do."""
 
@@ -268,6 +272,15 @@ def shows_after_deaths(count: int) -> str:
     return "\n".join([DRAFTS, "---", *tells([*atoms, ("final", ())]), *shows, ""])
 
 
+def best_of_each(count: int) -> str:
+    """So many symbols, and of each the greatest value of a key is kept, with all that tie."""
+    symbols = [f"b{number}" for number in range(count)]
+    rules = " ".join(
+        f"{it}(K,X,T) \\ {it}(K,X,T) <=> true. {it}(K,X,T) \\ {it}(K,Y,U) <=> X > Y | true." for it in symbols
+    )
+    return f":- chr_constraint {', '.join(f'{it}/3' for it in symbols)}. {rules}"
+
+
 def long_text(count: int) -> str:
     """Far too long, and read to its end."""
     return "a" * count
@@ -397,6 +410,17 @@ class Costs(unittest.TestCase):
         self.assertEqual((plain.status, plain.output), (spaced.status, spaced.output))
         self.assertLessEqual(spaced.seconds, SPACED * max(plain.seconds, FLOOR))
         print(f"({spaced.seconds / max(plain.seconds, FLOOR):.2f})", end=" ", flush=True)
+
+    def test_an_accepted_program_is_explained(self) -> None:
+        given = best_of_each(EXPLAINED_SYMBOLS)
+        checked, explained = (
+            min((run_of((command,), given) for _ in range(RUNS)), key=lambda end: end.seconds)
+            for command in ("check", "explain")
+        )
+        self.assertEqual((checked.status, checked.output), (0, b"accepted: rules 64, cases 830464\n"))
+        self.assertEqual(explained.status, 0)
+        self.assertLessEqual(explained.seconds, EXPLAINED * max(checked.seconds, FLOOR))
+        print(f"({explained.seconds / max(checked.seconds, FLOOR):.2f})", end=" ", flush=True)
 
     def bytes_shown(self, values: Iterable[int]) -> float:
         """How many bytes of memory a service takes more than ever before, for each atom that it shows."""

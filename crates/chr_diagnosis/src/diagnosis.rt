@@ -1,5 +1,5 @@
 //! What is to be told of a text: why it is refused, or what was accepted.
-ghost use Rattle.std.specs.Prelude.{◌≡◌, false, true, IfOk, None};
+ghost use Rattle.std.specs.Prelude.{◌≡◌, false, true, All, IfOk, None};
 ghost use Rattle.chr_weights.specs.WeighedPrograms.{program_of, rules_in};
 ghost use Rattle.chr_overlaps.specs.OverlapLists.{IsOverlapOf};
 ghost use Rattle.chr_diagnosis.specs.Verdicts.{verdict_of};
@@ -11,15 +11,15 @@ ghost use Rattle.chr_join.specs.AcceptedPrograms.{cases_of, program_in};
 ghost use Rattle.chr_join.specs.Verdicts.{IsAcceptedBy};
 ghost use Rattle.chr_join.specs.Explanations.{IfFails, IsRefusalBy, ReplaysApart};
 ghost use Rattle.chr_faults.specs.BadClauses.{IsRefused};
-ghost use Rattle.chr_diagnosis.specs.Diagnoses.{AreCountedBy, IsCountedBy, IsDiagnosis, IsDiagnosisOf};
+ghost use Rattle.chr_diagnosis.specs.Diagnoses.{AreCountedBy, IsDiagnosis, IsDiagnosisOf};
+ghost use Rattle.chr_diagnosis.specs.working.Numbers.{AreNumbersBy, number_at};
 ghost use Rattle.chr_diagnosis.specs.Judgements.{IsChosen, IsJudged, IsJudgedOf};
 
 use crate::peak::{Peak, peak_of};
 use chr_base::program::Program;
 use chr_faults::{TextFaults, text_faults};
-use chr_join::{Accepted, Cause, Coverage, Failure, Refused, TooManyTypes, accept};
-use chr_overlaps::cases::cases;
-use chr_overlaps::{CaseFault, Overlap, overlaps};
+use chr_join::{Accepted, Cause, Coverage, Failure, Refused, TooManyTypes, accept, case_numbers};
+use chr_overlaps::{Overlap, overlaps};
 use chr_read::{ReadFault, read};
 use chr_weighing::{Weighing, find_weights};
 use chr_weights::{NotLowered, Weighed, weigh};
@@ -102,55 +102,54 @@ impl Diagnosis {
     }
 }
 
-/// An overlap with the number of its cases, 0 where it has too many order types.
-fn count_cases(alloc: Global, weighed: &Weighed, overlap: &Overlap) -> Result<Counted, AllocError>
-    requires { IsOverlapOf (rules_in weighed.now) overlap.now }
-    ensures overlap { IfOk result (λ c. c.overlap ≡ overlap.now) }
-    ensures counted { IfOk result (IsCountedBy Joint (rules_in weighed.now)) }
-{
-    let cases = match cases(alloc, weighed, overlap) {
-        Ok(cases) => cases.len(),
-        Err(CaseFault::TooManyTypes { .. }) => 0,
-        Err(CaseFault::Memory) => return Err(AllocError),
-    };
-    Ok(Counted {
-        overlap: overlap.copy(),
-        cases,
-    })
-}
-
-/// An overlap with the number of its cases, where they are joint ones.
-fn count_by(
+/// The numbers of joint cases of these overlaps, each at its place, and none where sorted ones were looked at.
+fn joint_numbers(
+    rt: &(impl Threads + Sync),
     alloc: Global,
-    weighed: &Weighed,
-    overlap: &Overlap,
+    accepted: &Accepted,
+    overlaps: &[Overlap],
     coverage: Coverage,
-) -> Result<Counted, AllocError>
-    requires { IsOverlapOf (rules_in weighed.now) overlap.now }
-    ensures overlap { IfOk result (λ c. c.overlap ≡ overlap.now) }
-    ensures counted { IfOk result (IsCountedBy coverage (rules_in weighed.now)) }
+) -> Result<Vec<Option<usize>>, AllocError>
+    requires { All (IsOverlapOf (rules_of (program_in accepted.now))) overlaps.now }
+    ensures { IfOk result (λ numbers.
+        AreNumbersBy coverage (rules_of (program_in accepted.now)) overlaps.now numbers.items) }
 {
     match coverage {
-        Coverage::Joint => count_cases(alloc, weighed, overlap),
-        Coverage::Sorted => Ok(Counted {
-            overlap: overlap.copy(),
-            cases: 0,
-        }),
+        Coverage::Joint => case_numbers(rt, alloc, accepted, overlaps),
+        Coverage::Sorted => Ok(Vec::new(alloc)),
+    }
+}
+
+/// An overlap with the number of its cases that stands at its place, 0 where none does.
+fn counted_at(overlap: &Overlap, numbers: &[Option<usize>], place: usize) -> Counted
+    ensures overlap { result.overlap ≡ overlap.now }
+    ensures cases { result.cases ≡ number_at numbers.now place }
+{
+    let cases = match numbers.get(place) {
+        Some(Some(number)) => *number,
+        _ => 0,
+    };
+    Counted {
+        overlap: overlap.copy(),
+        cases,
     }
 }
 
 /// All overlaps with the numbers of their cases.
 fn all_counted(
+    rt: &(impl Threads + Sync),
     alloc: Global,
-    weighed: &Weighed,
+    accepted: &Accepted,
     coverage: Coverage,
 ) -> Result<Vec<Counted>, AllocError>
-    ensures { IfOk result (λ v. AreCountedBy coverage (rules_in weighed.now) v.items) }
+    ensures { IfOk result (λ v.
+        AreCountedBy coverage (rules_of (program_in accepted.now)) v.items) }
 {
-    let overlaps = overlaps(alloc, weighed)?;
+    let overlaps = overlaps(alloc, accepted.weighed())?;
+    let numbers = joint_numbers(rt, alloc, accepted, &overlaps, coverage)?;
     let mut counts = Vec::new(alloc);
-    for overlap in &overlaps {
-        counts.push(count_by(alloc, weighed, overlap, coverage)?)?;
+    for (place, overlap) in overlaps.iter().enumerate() {
+        counts.push(counted_at(overlap, &numbers, place))?;
     }
     Ok(counts)
 }
@@ -174,6 +173,7 @@ fn failing_diagnosis(
 
 /// What is to be told of an accepted program.
 fn accepted_diagnosis(
+    rt: &(impl Threads + Sync),
     alloc: Global,
     accepted: Accepted,
     coverage: Coverage,
@@ -181,7 +181,7 @@ fn accepted_diagnosis(
     requires { IsAcceptedBy coverage (rules_of (program_in accepted)) (cases_of accepted) }
     ensures { IfOk result (IsDiagnosisOf coverage (program_in accepted)) }
 {
-    let counts = all_counted(alloc, accepted.weighed(), coverage)?;
+    let counts = all_counted(rt, alloc, &accepted, coverage)?;
     Ok(Diagnosis::Accepted(Census { accepted, counts }))
 }
 
@@ -210,7 +210,7 @@ fn sorted_diagnosis(
     ensures { IfOk result (IsDiagnosisOf Sorted (program_of weighed)) }
 {
     match accept(rt, alloc, weighed, Coverage::Sorted) {
-        Ok(accepted) => accepted_diagnosis(alloc, accepted, Coverage::Sorted),
+        Ok(accepted) => accepted_diagnosis(rt, alloc, accepted, Coverage::Sorted),
         Err(refused) => sorted_refusal(alloc, refused),
     }
 }
@@ -257,7 +257,7 @@ fn joint_judged(
 {
     match accept(rt, alloc, weighed, Coverage::Joint) {
         Ok(accepted) => {
-            let diagnosis = accepted_diagnosis(alloc, accepted, Coverage::Joint)?;
+            let diagnosis = accepted_diagnosis(rt, alloc, accepted, Coverage::Joint)?;
             Ok(Judged {
                 diagnosis,
                 coverage: Coverage::Joint,

@@ -1,11 +1,7 @@
-use Rattle.std.proofs.Common.{◌≡◌, take}
-use Rattle.std.specs.Prelude.{map}
-use Rattle.std.specs.List.{All}
-use Rattle.chr_weights.specs.WeighedPrograms.{rules_in}
-use Rattle.chr_diagnosis.specs.Diagnoses.{IsCountedBy}
+use Rattle.chr_base.specs.Programs.{rules_of}
+use Rattle.chr_join.specs.AcceptedPrograms.{program_in}
+use Rattle.chr_diagnosis.proofs.Counting.{AreCountedTo}
 use Rattle.chr_diagnosis.proofs.diagnosis.all_counted.Given as goal
 
-abbrev pub invariant-loop-overlap : goal.invariant-loop-overlap
-invariant-loop-overlap l =
-    (map (λ c. c.overlap) l.counts.items ≡ take l.overlap-index l.overlap-items)
-    × All (IsCountedBy l.coverage (rules_in l.weighed)) l.counts.items
+abbrev pub invariant-loop-place : goal.invariant-loop-place
+invariant-loop-place g l = AreCountedTo l.fn.coverage (rules_of (program_in l.fn.accepted)) l.place l.overlap-items l.counts.items
