@@ -14,6 +14,11 @@ none_after (suc n) [] e = refl
 none_after (suc n) (x ∷ xs) e = none_after n xs (omega (arith, e))
 
 module _ {M : Type 0} (Answers : M → List ℕ → List ℕ → M → Type 0) where
+  -- of a batch that has these bytes
+  pub of_batch : (mid now : M) (bytes other : List ℕ) (at to : ℕ) (left more : List ℕ) → other ≡ bytes
+      → AnswersSome (Answers mid) now other at to left more → AnswersSome (Answers mid) now bytes at to left more
+  of_batch mid now bytes other at to left more e t = subst (λ l. AnswersSome (Answers mid) now l at to left more) e t
+
   pub begun : ((m : M) → Answers m [] [] m) → (m : M) (bytes : List ℕ) (a : Option (List ℕ)) (held : List ℕ)
       → AnswersFront (Answers m) m bytes bytes a a held held
   begun starts m bytes a held = record {

@@ -23,17 +23,19 @@ all_sent old new held left text e f m =
     subst (Appends old new) (sym (ap (λ l. l ++ text) (sym e) ∙ m.are ∙ ap (λ l. m.sent ++ l) f ∙ append-nil m.sent))
     m.is_sent
 
-pub is_prompt : {M : Type 0} (Answers : List ℕ → List ℕ → M → Type 0) (now : M) (from to old new : Option (List ℕ))
-    (first held left : List ℕ) → first ≡ [] → held ≡ [] → left ≡ []
+pub is_prompt : {M : Type 0} (Answers : List ℕ → List ℕ → M → Type 0) (IsDone : M → Type 0) (now : M)
+    (from to old new : Option (List ℕ)) (first held left : List ℕ) → first ≡ [] → held ≡ [] → left ≡ []
+    → ¬ IsDone now
     → HasAnswered Answers now first (prepend_known [] from) (prepend_known [] to) old new held left
-    → AllAnswered Answers from to old new
-is_prompt Answers now from to old new first held left n e f s = record {
+    → AllAnswered Answers IsDone from to old new
+is_prompt Answers IsDone now from to old new first held left n e f more s = record {
   bytes = s.bytes;
   read = from_all [] to (λ k. Consumes from k s.bytes) refl
       (from_all [] from (λ k. Consumes k (prepend_known [] to) s.bytes) refl s.given);
   now = now;
   text = s.text;
   answers = subst (λ l. Answers (l ++ s.bytes) s.text now) n s.answers;
+  goes_on = more;
   written = all_sent old new held left _ e f s.moves;
 }
 

@@ -13,12 +13,13 @@ abbrev pub WritesBeginning : (List ℕ → List ℕ → Type 0) → Option (List
 WritesBeginning IsAnswered known old new =
     Appends old new [] ⊎ AnswersInput IsAnswered [] known (AppendsPart old new)
 
--- all bytes that were read are answered, and all answers are sent
-pub record AllAnswered {M : Type 0} (Answers : List ℕ → List ℕ → M → Type 0) (from to old new : Option (List ℕ))
-    : Type 0 where
+-- all bytes that were read are answered, all answers are sent, and more may be answered
+pub record AllAnswered {M : Type 0} (Answers : List ℕ → List ℕ → M → Type 0) (IsDone : M → Type 0)
+    (from to old new : Option (List ℕ)) : Type 0 where
   pub bytes : List ℕ
   pub read : Consumes from to bytes
   pub now : M
   pub text : List ℕ
   pub answers : Answers bytes text now
+  pub goes_on : ¬ IsDone now
   pub written : Appends old new text

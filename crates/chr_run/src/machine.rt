@@ -18,20 +18,26 @@ pub trait Machine<B: Batch> {
 
     ghost IsDone: { Self → Type 0 };
 
-    // What has to be known of a batch that it is fed.
+    // When it can answer anything, and what has to be known of a batch that it is fed.
+    ghost IsReady: { Self → Type 0 };
+
     ghost fits: { Self → B → Type 0 };
 
-    /// Takes some bytes of a batch, from a place on, adds what it answers, and says up to which place it took them.
+    /// Takes some bytes of a batch, from a place on, adds what it answers, and says up to which place it took them. It
+    /// may use up what was found out of them.
     ///
     /// # Errors
     ///
     /// `AllocError` where no memory was left.
-    fn answer(&mut self, batch: &B, at: usize, held: &mut String) -> Result<usize, AllocError>
-        requires fits { fits self.old batch.now }
-        requires some { at < length (B.bytes batch.now) }
-        ensures ok { IfOk result (λ to. AnswersSome (Answers self.old) self.new (B.bytes batch.now) at to
+    fn answer(&mut self, batch: &mut B, at: usize, held: &mut String) -> Result<usize, AllocError>
+        requires ready { IsReady self.old }
+        requires fits { fits self.old batch.old }
+        requires some { at < length (B.bytes batch.old) }
+        ensures ok { IfOk result (λ to. AnswersSome (Answers self.old) self.new (B.bytes batch.old) at to
             (string_bytes held.old) (string_bytes held.new)) }
-        ensures fits { OnOk result (fits self.new batch.now) };
+        ensures bytes { B.bytes batch.new ≡ B.bytes batch.old }
+        ensures ready { OnOk result (IsReady self.new) }
+        ensures fits { OnOk result (fits self.new batch.new) };
 
     /// No byte comes any more: adds what is still to be answered.
     ///
@@ -39,6 +45,7 @@ pub trait Machine<B: Batch> {
     ///
     /// `AllocError` where no memory was left.
     fn finish(&mut self, held: &mut String) -> Result<(), AllocError>
+        requires { IsReady self.old }
         ensures { OnOk result ((text : List ℕ) × Finishes self.old [] text self.new
             × (string_bytes held.new ≡ string_bytes held.old ++ text)) };
 

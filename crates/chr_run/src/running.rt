@@ -38,6 +38,7 @@ pub fn answer_at_end<M: Machine<Vec<u8>>, R: Read, W: Write>(
     reader: &mut Watched<R>,
     writer: &mut Watched<W>,
 ) -> Result<(), RunFault>
+    requires ready { M.IsReady machine.old }
     requires any { (m : M) (b : _) → M.fits m b }
     requires reads { has_failed reader.old ≡ false }
     requires writes { has_failed writer.old ≡ false }
@@ -70,7 +71,7 @@ pub fn answer_at_end<M: Machine<Vec<u8>>, R: Read, W: Write>(
 }
 
 /// Sends what the machine answers as soon as its bytes have been read: it waits only where all that was read is
-/// answered. It ends with the input, or where nothing that comes is answered any more. What it sends is what
+/// answered, and more may be. It ends with the input, or where nothing that comes is answered any more. What it sends is what
 /// [`answer_at_end`] writes for the same input.
 ///
 /// # Errors
@@ -83,9 +84,10 @@ pub fn answer_promptly<M: Machine<Vec<u8>>, T: Wire>(
     machine: &mut M,
     wire: &mut T,
 ) -> Result<(), RunFault>
+    requires ready { M.IsReady machine.old }
     requires any { (m : M) (b : _) → M.fits m b }
     requires unbroken { T.is_broken wire.old ≡ false }
-    requires prompt { (w : T) → AllAnswered (M.Answers machine.old) (T.unread wire.old) (T.unread w)
+    requires prompt { (w : T) → AllAnswered (M.Answers machine.old) M.IsDone (T.unread wire.old) (T.unread w)
         (T.sent wire.old) (T.sent w) → T.may_wait w }
     ensures ok { OnOk result (WritesAnswers (λ input text. M.Finishes machine.old input text machine.new)
         (T.unread wire.old) (T.sent wire.old) (T.sent wire.new)) }

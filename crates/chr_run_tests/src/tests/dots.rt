@@ -23,11 +23,13 @@ impl Machine<Vec<u8>> for Dots {
 
     ghost IsDone = { λ _. ⊥ };
 
+    ghost IsReady = { λ _. Unit {0} };
+
     ghost fits = { λ _ _. Unit {0} };
 
     fn answer(
         &mut self,
-        _batch: &Vec<u8>,
+        _batch: &mut Vec<u8>,
         at: usize,
         held: &mut String,
     ) -> Result<usize, AllocError> {

@@ -60,11 +60,13 @@ impl Machine<Vec<u8>> for Lengths {
 
     ghost IsDone = { λ m. m.done ≡ true };
 
+    ghost IsReady = { λ _. Unit {0} };
+
     ghost fits = { λ _ _. Unit {0} };
 
     fn answer(
         &mut self,
-        batch: &Vec<u8>,
+        batch: &mut Vec<u8>,
         at: usize,
         held: &mut String,
     ) -> Result<usize, AllocError> {

@@ -5,10 +5,11 @@ use Rattle.chr_run.proofs.Outputs.{both_ok, is_prompt, served, served_part}
 use Rattle.chr_run.proofs.running.answer_promptly.Goals as goal
 
 pub answer-requires-clause-prompt : goal.answer-requires-clause-prompt
-answer-requires-clause-prompt g c s p k m left has settled fits =
+answer-requires-clause-prompt g c s p k m left has more settled fits =
     let none : string_bytes c.new-held.result ≡ [] = search rules in
     let first : c.new-batch.result.items ≡ [] = search rules in
-    c.requires.prompt p (is_prompt (g.M.Machine.Answers c.args.machine.now) m _ _ _ _ _ _ _ first none settled has)
+    c.requires.prompt p (is_prompt (g.M.Machine.Answers c.args.machine.now) g.M.Machine.IsDone m _ _ _ _ _ _ _
+    first none settled (λ done. more (refl, done)) has)
 
 pub returns-clause-ok : goal.returns-clause-ok
 returns-clause-ok g c =
