@@ -71,8 +71,8 @@ pub fn answer_at_end<M: Machine<Vec<u8>>, R: Read, W: Write>(
 }
 
 /// Sends what the machine answers as soon as its bytes have been read: it waits only where all that was read is
-/// answered, and more may be. It ends with the input, or where nothing that comes is answered any more. What it sends is what
-/// [`answer_at_end`] writes for the same input.
+/// answered, and more may be. It ends with the input, or where nothing that comes is answered any more. What it sends
+/// is what [`answer_at_end`] writes for the same input.
 ///
 /// # Errors
 ///

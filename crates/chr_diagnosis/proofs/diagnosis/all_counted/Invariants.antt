@@ -4,4 +4,5 @@ use Rattle.chr_diagnosis.proofs.Counting.{AreCountedTo}
 use Rattle.chr_diagnosis.proofs.diagnosis.all_counted.Given as goal
 
 abbrev pub invariant-loop-place : goal.invariant-loop-place
-invariant-loop-place g l = AreCountedTo l.fn.coverage (rules_of (program_in l.fn.accepted)) l.place l.overlap-items l.counts.items
+invariant-loop-place g l =
+    AreCountedTo l.fn.coverage (rules_of (program_in l.fn.accepted)) l.place l.overlap-items l.counts.items
