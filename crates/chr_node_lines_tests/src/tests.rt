@@ -1,0 +1,2 @@
+//! Lines with their replies. Where memory runs out a test ends.
+mod lines;
