@@ -291,9 +291,9 @@ fn value_request(
 /// # Errors
 ///
 /// `BadLine` where the line has more than [`MAX_LINE`] bytes or is no JSON value, `NoWord` where it is no array that
-/// begins with a word, `WrongArguments` where the word takes others; for the first name of an atom or a pattern that the
-/// program doesn't declare with that number of arguments, `WrongArity` where it declares the name with another number,
-/// and else `UnknownSymbol`, as for a name to show; and `Memory`, which says nothing of the line.
+/// begins with a word, `WrongArguments` where the word takes others; for the first name of an atom or a pattern that
+/// the program doesn't declare with that number of arguments, `WrongArity` where it declares the name with another
+/// number, and else `UnknownSymbol`, as for a name to show; and `Memory`, which says nothing of the line.
 pub fn request_of(
     alloc: Global,
     program: &Program,

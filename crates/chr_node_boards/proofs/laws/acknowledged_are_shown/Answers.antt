@@ -8,7 +8,8 @@ returns c = λ p runs r file files store copies there left shows.
     let law = c.feeds_keep_what_was_told.ensures in
     record {
       operations = shows.operations;
-      has_acknowledged = λ o answered. law.acknowledged f r file files shows.operations o left there shows.held answered;
+      has_acknowledged = λ o answered.
+          law.acknowledged f r file files shows.operations o left there shows.held answered;
       has_told = λ o held. law.no_other f runs files shows.operations o copies shows.held held;
       normal = shows.normal;
     }
