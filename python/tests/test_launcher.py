@@ -18,6 +18,7 @@ LOADER = Path("/lib64/ld-linux-x86-64.so.2")
 HAS_RELEASE = platform.system() == "Linux" and platform.machine() == "x86_64" and LOADER.exists()
 SECONDS = 60.0
 # it remembers no file that has changed within two seconds
+FRESH = 2.0
 AGE = 2.2
 
 SOURCE = "crates/one/src/lib.rt"
@@ -65,6 +66,7 @@ class Launcher(unittest.TestCase):
         (folder / f"{RELEASE}.sha256").write_text(f"{digest}  {RELEASE}\n")
 
     def write(self, name: str, text: str) -> None:
+        self.changed = time.monotonic()
         file = self.top / name
         file.parent.mkdir(parents=True, exist_ok=True)
         file.write_text(text)
@@ -89,10 +91,17 @@ class Launcher(unittest.TestCase):
         asked = len(self.calls.read_text().split()) if self.calls.exists() else 0
         return ended.returncode, ended.stdout, lines, asked
 
-    def expect(self, who: str, *lines: str, asks: bool) -> None:
+    def expect(self, who: str, *lines: str, asks: bool | None) -> None:
+        """Where `asks` is None it may have remembered what it runs, or not."""
         status, written, told, asked = self.ran("run", "a b")
         self.assertEqual((status, written, told), (0, f"{who}: run a b\n", list(lines)))
-        self.assertEqual(asked > 0, asks)
+        if asks is not None:
+            self.assertEqual(asked > 0, asks)
+
+    def asks_again(self) -> bool | None:
+        """Whether the next run asks git: it does where those before it came too soon after a change to remember it. On
+        a slow machine they may have come late."""
+        return True if time.monotonic() - self.changed < FRESH else None
 
     def settle(self) -> None:
         time.sleep(AGE)
@@ -100,8 +109,9 @@ class Launcher(unittest.TestCase):
     def test_a_fresh_clone(self) -> None:
         """It is looked at until its files are old enough, and from then on git is not asked."""
         self.expect("release", asks=True)
+        asks = self.asks_again()
         self.settle()
-        self.expect("release", asks=True)
+        self.expect("release", asks=asks)
         self.expect("release", asks=False)
         self.expect("release", asks=False)
 
@@ -119,8 +129,9 @@ class Launcher(unittest.TestCase):
             self.expect("built", why, *BUILDING, asks=True)
             self.expect("built", asks=True)
             if name == SOURCE:
+                asks = self.asks_again()
                 self.settle()
-                self.expect("built", asks=True)
+                self.expect("built", asks=asks)
                 self.expect("built", asks=False)
             shutil.rmtree(self.top / "crates/chrrep/out")
             self.git("checkout", "--quiet", ".")

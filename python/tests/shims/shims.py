@@ -15,7 +15,7 @@ DEVICES = HERE / "devices.c"
 COMPILER = next(filter(None, map(shutil.which, ("cc", "gcc", "clang"))), None)
 NO_COMPILER = "there is no C compiler to make a shim: cc, gcc or clang"
 IN_A_SHELL = "a shim would be loaded into a shell: CHRREP has to name the program itself"
-SECONDS = 60.0
+SECONDS = 240.0
 
 
 @dataclass(frozen=True)
