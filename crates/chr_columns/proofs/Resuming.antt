@@ -9,9 +9,9 @@ use Rattle.chr_base.specs.Atoms.{no_atom}
 use Rattle.chr_plans.specs.declared.react.Standing.{Standing}
 use Rattle.chr_plans.specs.declared.rows.Seat.{Seat}
 use Rattle.chr_plans.specs.Reactions.{MayResume}
-use Rattle.chr_plans.specs.Rows.{Tables}
+use Rattle.chr_plans.specs.Rows.{Tables, Ranks}
 use Rattle.chr_plans.proofs.Reactions.{OnlyDied, resume_later}
-use Rattle.chr_tables.specs.Contents.{Contents, rows_of}
+use Rattle.chr_tables.specs.Contents.{Contents, rows_of, ranks_of}
 use Rattle.chr_plans.specs.Grids.{Grid, rows_in, without_rows}
 use Rattle.chr_columns.specs.declared.groups.Group.{Group}
 use Rattle.chr_columns.specs.declared.rested.Rested.{Rested}
@@ -39,34 +39,39 @@ only_died ts us ss e t n b h = sym (row_is ts t n) ∙ rows_stay (grid ts) ss t 
 pub stands_on : (r r' : Rested) (fresh : List Atom) (a : Atom) (s : Standing) (found : Option Standing) (kept : Type 0)
     → IfSome found (λ x. (x ≡ s) × kept)
     → (kept → (xs : List Atom) × (fresh ≡ xs ++ a ∷ [])) → r'.rules ≡ r.rules → r'.directory ≡ r.directory
-    → OnlyDied (rows_of r.tables.tables.items) (rows_of r'.tables.tables.items) → MayGoOn r a s → Stands r' fresh found
-stands_on r r' fresh a s None kept is last rules groups died goes = tt
-stands_on r r' fresh a s (Some x) kept is last rules groups died goes = λ xs b e g at. (
+    → OnlyDied (rows_of r.tables.tables.items) (rows_of r'.tables.tables.items)
+    → ranks_of r'.tables.tables.items ≡ ranks_of r.tables.tables.items → MayGoOn r a s → Stands r' fresh found
+stands_on r r' fresh a s None kept is last rules groups died ranks goes = tt
+stands_on r r' fresh a s (Some x) kept is last rules groups died ranks goes = λ xs b e g at. (
     let w = last is.1 in
     let same : a ≡ b = last_same w.0 xs a b (sym w.1 ∙ e) in
     let here : slice_get r.directory.groups.items (table_of_atom r.directory.groups.items a) ≡ Some g =
     ap (λ d. slice_get d.groups.items (table_of_atom d.groups.items a)) (sym groups)
     ∙ ap (λ c. slice_get r'.directory.groups.items (table_of_atom r'.directory.groups.items c)) same ∙ at in
     let after = rows_of r'.tables.tables.items in
-    let later = resume_later r.rules.items (rows_of r.tables.tables.items) after died a g.plans.items s (goes g here) in
-    subst (λ y. MayResume r'.rules.items after b g.plans.items y) (sym is.0)
-    (subst (λ c. MayResume r'.rules.items after c g.plans.items s) same
-    (subst (λ rs. MayResume rs.items after a g.plans.items s) (sym rules) later)))
+    let rank = ranks_of r'.tables.tables.items in
+    let before : MayResume r.rules.items (rows_of r.tables.tables.items) rank a g.plans.items s =
+    subst (λ k. MayResume r.rules.items (rows_of r.tables.tables.items) k a g.plans.items s) (sym ranks)
+    (goes g here) in
+    let later = resume_later r.rules.items (rows_of r.tables.tables.items) after rank died a g.plans.items s before in
+    subst (λ y. MayResume r'.rules.items after rank b g.plans.items y) (sym is.0)
+    (subst (λ c. MayResume r'.rules.items after rank c g.plans.items s) same
+    (subst (λ rs. MayResume rs.items after rank a g.plans.items s) (sym rules) later)))
 
 -- the plans of the atom's group
-pub goes_by : (rules : List Rule) (groups : List Group) (rows : Tables) (a : Atom) (from : Option Standing) (h : Group)
-    → slice_get groups (table_of_atom groups a) ≡ Some h
+pub goes_by : (rules : List Rule) (groups : List Group) (rows : Tables) (rank : Ranks) (a : Atom)
+    (from : Option Standing) (h : Group) → slice_get groups (table_of_atom groups a) ≡ Some h
     → IfSome from (λ s. (g : Group) → slice_get groups (table_of_atom groups a) ≡ Some g
-    → MayResume rules rows a g.plans.items s)
-    → IfSome from (MayResume rules rows a h.plans.items)
-goes_by rules groups rows a None h at goes = tt
-goes_by rules groups rows a (Some s) h at goes = goes h at
+    → MayResume rules rows rank a g.plans.items s)
+    → IfSome from (MayResume rules rows rank a h.plans.items)
+goes_by rules groups rows rank a None h at goes = tt
+goes_by rules groups rows rank a (Some s) h at goes = goes h at
 
-pub goes_on : (rules : List Rule) (groups : List Group) (rows : Tables) (a : Atom) (s : Standing) (h : Group)
-    → slice_get groups (table_of_atom groups a) ≡ Some h
-    → MayResume rules rows a h.plans.items s → (g : Group) → slice_get groups (table_of_atom groups a) ≡ Some g
-    → MayResume rules rows a g.plans.items s
-goes_on rules groups rows a s h at may g e = subst (λ x. MayResume rules rows a x.plans.items s)
+pub goes_on : (rules : List Rule) (groups : List Group) (rows : Tables) (rank : Ranks) (a : Atom) (s : Standing)
+    (h : Group) → slice_get groups (table_of_atom groups a) ≡ Some h
+    → MayResume rules rows rank a h.plans.items s → (g : Group) → slice_get groups (table_of_atom groups a) ≡ Some g
+    → MayResume rules rows rank a g.plans.items s
+goes_on rules groups rows rank a s h at may g e = subst (λ x. MayResume rules rows rank a x.plans.items s)
     (same_Some h g (sym at ∙ e)) may
 
 -- where the search for the last fresh atom may go on, it may when this atom has left the fresh ones

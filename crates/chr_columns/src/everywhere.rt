@@ -1,7 +1,7 @@
 //! All atoms as the rows of one table, for the search for partners.
 ghost use Rattle.std.specs.Prelude.{◌≡◌, ℕ, ◌<◌, ◌≤◌, ◌∷◌, [], length, get_or, None, IfSome, IfNone, IsTrue, is_some};
 ghost use Rattle.chr_columns.specs.working.Listing.{rows_in_turn};
-ghost use Rattle.chr_columns.specs.working.Finding.{rows_but, only_table, only_index, Lives};
+ghost use Rattle.chr_columns.specs.working.Finding.{rows_but, only_table, only_index, newest_first, Lives};
 
 use crate::listing::atom_at;
 use chr_base::atom::Atom;
@@ -61,6 +61,8 @@ impl Rows for Everywhere<'_> {
     ghost columns = { λ s. only_index };
 
     ghost tables = { λ s. 1 };
+
+    ghost rank = { λ s. newest_first };
 
     fn first(&mut self, _table: usize, _index: usize, key: &[i64], _span: &Span) -> Option<usize> {
         if !key.is_empty() {

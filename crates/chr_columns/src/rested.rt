@@ -2,7 +2,7 @@
 ghost use Rattle.std.specs.Prelude.{◌≡◌, ℕ, ◌<◌, ◌≤◌, length, IsTrue, is_some, IfSome, IfNone, OnOk, OnErr};
 ghost use Rattle.chr_base.specs.FinBag.{◌⊕◌};
 ghost use Rattle.chr_plans.specs.Seats.{seat, atom_in};
-ghost use Rattle.chr_tables.specs.Contents.{rows_of, index_columns};
+ghost use Rattle.chr_tables.specs.Contents.{rows_of, index_columns, ranks_of};
 ghost use Rattle.chr_plans.specs.Actives.{one, NoInstanceWith};
 ghost use Rattle.chr_plans.specs.Grids.{without_rows};
 ghost use Rattle.chr_columns.specs.working.Groups.{table_of_atom};
@@ -55,6 +55,7 @@ pub(crate) fn kill_all(tables: &mut Tables, seats: &[Seat])
         IsTrue (is_some (atom_in (rows_of tables.old.tables.items) (seat seats.now q))) }
     ensures rows { grid tables.new.tables.items ≡ without_rows (grid tables.old.tables.items) seats.now }
     ensures columns { index_columns tables.new.tables.items ≡ index_columns tables.old.tables.items }
+    ensures ranks { ranks_of tables.new.tables.items ≡ ranks_of tables.old.tables.items }
 {
     for seat in seats {
         tables.tables[seat.table].kill(seat.row);

@@ -24,7 +24,9 @@ pub(crate) const PROGRAM_MORE: &str = with_statuses!(
 
   chrrep run < FILE
 
-The input is a program text. After it may stand a line `---`, and then command lines, each a JSON array."
+The input is a program text. After it may stand a line `---`, and then command lines, each a JSON array.
+
+One command more keeps facts in a folder, where they last, and has words of its own: chrrep node --help"
 );
 
 /// What `check` is for.

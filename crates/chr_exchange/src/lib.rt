@@ -17,6 +17,7 @@ mod writing;
 
 pub use fault::MessageFault;
 pub use laws::{lacked_ids_differ, messages_are_read_back};
-pub use named::{declared_operation, declared_operations};
+pub use named::{declared_operation, declared_operations, named_atoms};
+pub use pieces::{push_atoms, push_natural};
 pub use reading::{delta_of, op_of, read_delta, read_summary, summary_of};
 pub use writing::{delta_text, delta_text_1, summary_text};

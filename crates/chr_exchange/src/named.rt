@@ -37,7 +37,11 @@ fn push_named(
 }
 
 /// The atoms of these names and arguments, or nothing where the program doesn't declare one of them.
-fn named_atoms(
+///
+/// # Errors
+///
+/// `AllocError` where no memory was left.
+pub fn named_atoms(
     alloc: Global,
     program: &Program,
     words: &[RawAtom],

@@ -15,7 +15,11 @@ use itoa::Buffer;
 use std::alloc::AllocError;
 
 /// Adds a whole number without a sign.
-pub(crate) fn push_natural(out: &mut String, value: u64) -> Result<(), AllocError>
+///
+/// # Errors
+///
+/// `AllocError` where no memory was left.
+pub fn push_natural(out: &mut String, value: u64) -> Result<(), AllocError>
     ensures { OnOk result (string_bytes out.new ≡ string_bytes out.old ++ decimal value) }
 {
     let mut digits = Buffer::new();
@@ -77,12 +81,12 @@ fn push_more_atoms(out: &mut String, program: &Program, atoms: &[Atom]) -> Resul
     Ok(())
 }
 
-/// Adds an array of atoms.
-pub(crate) fn push_atoms(
-    out: &mut String,
-    program: &Program,
-    atoms: &[Atom],
-) -> Result<(), AllocError>
+/// Adds an array of atoms, without white space, by the names of a program that declares them.
+///
+/// # Errors
+///
+/// `AllocError` where no memory was left.
+pub fn push_atoms(out: &mut String, program: &Program, atoms: &[Atom]) -> Result<(), AllocError>
     ensures { OnOk result (string_bytes out.new ≡ string_bytes out.old
         ++ compact_text (atoms_data (map (spelt_atom (declarations program.now)) atoms.now))) }
 {

@@ -3,6 +3,7 @@
 
 mod drawings;
 mod explanation;
+mod prose;
 mod sentences;
 
 pub use chr_diagnosis::{

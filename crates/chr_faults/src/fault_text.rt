@@ -274,6 +274,15 @@ fn bad_span(alloc: Global, source: Source<'_>, told: BadClause) -> Result<Span, 
     })
 }
 
+/// Where the faults of the bad clauses stand that are told.
+fn source_spans(alloc: Global, source: Source<'_>) -> Result<Vec<Span>, AllocError> {
+    let mut spans = Vec::new(alloc);
+    for clause in source.bad {
+        spans.push(bad_span(alloc, source, *clause)?)?;
+    }
+    Ok(spans)
+}
+
 /// Where the faults of these bad clauses stand.
 pub fn bad_spans(alloc: Global, text: &[u8], bad: &[BadClause]) -> Result<Vec<Span>, AllocError> {
     let plain = without_comments(alloc, text)?;
@@ -282,11 +291,16 @@ pub fn bad_spans(alloc: Global, text: &[u8], bad: &[BadClause]) -> Result<Vec<Sp
         plain: &plain,
         bad,
     };
-    let mut spans = Vec::new(alloc);
-    for clause in bad {
-        spans.push(bad_span(alloc, source, *clause)?)?;
+    source_spans(alloc, source)
+}
+
+/// What is told of each of the bad clauses that are told.
+fn source_notes(alloc: Global, source: Source<'_>) -> Result<Vec<Note>, AllocError> {
+    let mut notes = Vec::new(alloc);
+    for clause in source.bad {
+        notes.push(note_of(alloc, source, *clause)?)?;
     }
-    Ok(spans)
+    Ok(notes)
 }
 
 /// What is told of each of these bad clauses.
@@ -297,11 +311,7 @@ fn clause_notes(alloc: Global, text: &[u8], bad: &[BadClause]) -> Result<Vec<Not
         plain: &plain,
         bad,
     };
-    let mut notes = Vec::new(alloc);
-    for clause in bad {
-        notes.push(note_of(alloc, source, *clause)?)?;
-    }
-    Ok(notes)
+    source_notes(alloc, source)
 }
 
 /// What is told of each bad clause of a text.

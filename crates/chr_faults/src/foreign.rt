@@ -128,17 +128,27 @@ fn directive_of<'a>(tokens: &[PlacedToken<'a>]) -> Option<&'a [u8]> {
     }
 }
 
+/// Whether a word is this text. A match of its bytes would compare them one by one.
+fn is_text(word: &[u8], text: &str) -> bool {
+    word == text.as_bytes()
+}
+
+/// Whether a word is the mode of an argument.
+fn is_mode(word: &[u8]) -> bool {
+    matches!(word, [b'+' | b'-' | b'?'])
+}
+
 /// What is foreign in the directive with this word, at this one.
 fn in_directive(word: &[u8], at: &[u8]) -> Option<ForeignDirective> {
-    match word {
-        b"chr_option" => Some(ForeignDirective::Options),
-        b"chr_type" => Some(ForeignDirective::Types),
-        b"module" | b"use_module" => Some(ForeignDirective::Modules),
-        b"chr_constraint" => match at {
-            b"+" | b"-" | b"?" => Some(ForeignDirective::Modes),
-            _ => None,
-        },
-        _ => None,
+    if is_text(word, "chr_option") {
+        Some(ForeignDirective::Options)
+    } else if is_text(word, "chr_type") {
+        Some(ForeignDirective::Types)
+    } else if is_text(word, "module") || is_text(word, "use_module") {
+        Some(ForeignDirective::Modules)
+    } else {
+        let is_modal = is_text(word, "chr_constraint") && is_mode(at);
+        is_modal.then_some(ForeignDirective::Modes)
     }
 }
 
@@ -166,10 +176,21 @@ fn alone<'a>(word: &'a [u8]) -> Option<Foreign<'a>> {
     }
 }
 
+/// Whether a word or a sign computes.
+fn computes(word: &[u8]) -> bool {
+    matches!(word, [b'/'])
+        || is_text(word, "is")
+        || is_text(word, "mod")
+        || is_text(word, "rem")
+        || is_text(word, "div")
+}
+
 /// What computes with the value before this token: a sign, a word, or the minus of a number.
 fn operator_of<'a>(token: PlacedToken<'a>) -> Option<&'a [u8]> {
+    if computes(token.word) {
+        return Some(token.word);
+    }
     match token.word {
-        b"/" | b"is" | b"mod" | b"rem" | b"div" => Some(token.word),
         [b'-', ..] => Some(&token.word[..1]),
         _ => None,
     }

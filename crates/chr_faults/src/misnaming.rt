@@ -1,4 +1,8 @@
 //! What is wrong with comments that name columns, told to a person.
+ghost use Rattle.std.specs.Prelude.{OnOk};
+ghost use Rattle.std.specs.List.{All};
+ghost use Rattle.chr_base.specs.Programs.{declarations};
+ghost use Rattle.chr_faults.specs.ColumnNames.{AreNames};
 
 use crate::columns::{ColumnNames, are_distinct, columns_of, push_named, symbol_of};
 use crate::fault_text::{push_place, push_symbols};
@@ -7,6 +11,7 @@ use crate::line::push_line;
 use crate::naming::{Naming, bytes_at, is_column_name, namings_in};
 use crate::part::{push_number, push_text, push_word};
 use crate::place::{Place, place_of};
+use crate::span::Span;
 use chr_base::limits::MAX_NAME;
 use chr_base::program::Program;
 use std::alloc::{AllocError, Global};
@@ -71,6 +76,37 @@ fn push_misfit(
     Ok(false)
 }
 
+/// The first of a comment's words that is no name of a column.
+fn bad_word(text: &[u8], naming: &Naming<'_>) -> Option<Span> {
+    for word in &naming.words {
+        if !is_column_name(bytes_at(text, *word)) {
+            return Some(*word);
+        }
+    }
+    None
+}
+
+/// Adds what is wrong with what a comment says of the columns of one symbol, behind those that have names, and tells
+/// where it stands. None where it is right.
+fn push_fault(
+    out: &mut String,
+    text: &[u8],
+    program: &Program,
+    naming: &Naming<'_>,
+    earlier: &[ColumnNames],
+) -> Result<Option<usize>, AllocError> {
+    if naming.symbol.is_empty() {
+        out.push_str("this names no columns: write `% chr_columns seen(parcel, time, place)`")?;
+        return Ok(Some(naming.at));
+    }
+    if let Some(word) = bad_word(text, naming) {
+        push_bad_word(out, bytes_at(text, word))?;
+        return Ok(Some(word.from));
+    }
+    let is_misfit = push_misfit(out, text, program, naming, earlier)?;
+    Ok(is_misfit.then_some(naming.at))
+}
+
 /// What is wrong with what a comment says of the columns of one symbol, behind those that have names.
 fn fault_of(
     alloc: Global,
@@ -80,28 +116,32 @@ fn fault_of(
     earlier: &[ColumnNames],
 ) -> Result<Option<ColumnFault>, AllocError> {
     let mut message = String::new(alloc);
-    if naming.symbol.is_empty() {
-        message.push_str("this names no columns: write `% chr_columns seen(parcel, time, place)`")?;
-        return Ok(Some(ColumnFault {
-            at: naming.at,
-            message,
-        }));
+    let found = push_fault(&mut message, text, program, naming, earlier)?;
+    match found {
+        Some(at) => Ok(Some(ColumnFault { at, message })),
+        None => Ok(None),
     }
-    for word in &naming.words {
-        let bytes = bytes_at(text, *word);
-        if !is_column_name(bytes) {
-            push_bad_word(&mut message, bytes)?;
-            return Ok(Some(ColumnFault {
-                at: word.from,
-                message,
-            }));
+}
+
+/// Adds what is wrong with what a comment says of the columns of one symbol, or else the names that it gives them.
+fn note_naming(
+    alloc: Global,
+    text: &[u8],
+    program: &Program,
+    naming: &Naming<'_>,
+    named: &mut Vec<ColumnNames>,
+    faults: &mut Vec<ColumnFault>,
+) -> Result<(), AllocError>
+    requires { All (AreNames (declarations program.now)) named.old.items }
+    ensures { OnOk result (All (AreNames (declarations program.now)) named.new.items) }
+{
+    match fault_of(alloc, text, program, naming, named)? {
+        Some(fault) => {
+            faults.push(fault)?;
+            Ok(())
         }
+        None => push_named(alloc, text, program, naming, named),
     }
-    let is_misfit = push_misfit(&mut message, text, program, naming, earlier)?;
-    Ok(is_misfit.then_some(ColumnFault {
-        at: naming.at,
-        message,
-    }))
 }
 
 /// Where comments in the text of a program name columns as it has none, the first `MAX_TOLD_FAULTS` such places.
@@ -117,10 +157,7 @@ pub fn column_faults(
         if faults.len() == MAX_TOLD_FAULTS {
             return Ok(faults);
         }
-        match fault_of(alloc, text, program, naming, &named)? {
-            Some(fault) => faults.push(fault)?,
-            None => push_named(alloc, text, program, naming, &mut named)?,
-        }
+        note_naming(alloc, text, program, naming, &mut named, &mut faults)?;
     }
     Ok(faults)
 }

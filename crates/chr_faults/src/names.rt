@@ -83,6 +83,19 @@ pub(crate) fn is_rule(tokens: &[PlacedToken<'_>]) -> bool {
     }
 }
 
+/// Adds the names of the variables of a clause, where it is a rule.
+fn push_rule_names(
+    alloc: Global,
+    rules: &mut Vec<RuleNames>,
+    clause: &[u8],
+) -> Result<(), AllocError> {
+    let tokens = placed_tokens(alloc, clause)?;
+    if is_rule(&tokens) {
+        rules.push(rule_names(alloc, &tokens)?)?;
+    }
+    Ok(())
+}
+
 /// The names of the variables of each rule in the text of a program.
 fn all_rule_names(alloc: Global, text: &[u8]) -> Result<Vec<RuleNames>, AllocError> {
     let plain = without_comments(alloc, text)?;
@@ -91,10 +104,7 @@ fn all_rule_names(alloc: Global, text: &[u8]) -> Result<Vec<RuleNames>, AllocErr
     let mut rest = plain.as_slice();
     for _ in 0..stops {
         if let Some((clause, after)) = next_clause(rest) {
-            let tokens = placed_tokens(alloc, clause)?;
-            if is_rule(&tokens) {
-                rules.push(rule_names(alloc, &tokens)?)?;
-            }
+            push_rule_names(alloc, &mut rules, clause)?;
             rest = after;
         }
     }

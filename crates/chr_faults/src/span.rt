@@ -2,7 +2,7 @@
 
 use crate::names::is_rule;
 use crate::place::place_outside;
-use chr_syntax::{PlacedToken, next_clause, placed_tokens, without_comments};
+use chr_syntax::{next_clause, placed_tokens, without_comments};
 use std::alloc::{AllocError, Global};
 
 /// Where something begins in a text, and where it ends.
@@ -19,15 +19,35 @@ impl Span {
     }
 }
 
-/// Where a clause of so many bytes stands in a text, behind so many bytes outside comments.
-fn span_of(text: &[u8], before: usize, tokens: &[PlacedToken<'_>], len: usize) -> Option<Span> {
-    let first = tokens.first()?;
-    let from = place_outside(text, before.saturating_add(first.at))?;
-    let stop = place_outside(text, before.saturating_add(len))?;
+/// The bytes of a text from the one with so many bytes outside comments before it, up to the one with so many of them.
+fn span_between(text: &[u8], first: usize, last: usize) -> Option<Span> {
+    let from = place_outside(text, first)?;
+    let stop = place_outside(text, last)?;
     Some(Span {
         from,
         to: stop.saturating_add(1),
     })
+}
+
+/// Where a clause stands in a text, behind so many bytes outside comments.
+fn span_of(
+    alloc: Global,
+    text: &[u8],
+    before: usize,
+    clause: &[u8],
+) -> Result<Option<Span>, AllocError> {
+    let tokens = placed_tokens(alloc, clause)?;
+    let Some(first) = tokens.first() else {
+        return Ok(None);
+    };
+    let first = before.saturating_add(first.at);
+    Ok(span_between(text, first, before.saturating_add(clause.len())))
+}
+
+/// Whether a clause is a rule, in a text without bad clauses.
+fn is_rule_clause(alloc: Global, clause: &[u8]) -> Result<bool, AllocError> {
+    let tokens = placed_tokens(alloc, clause)?;
+    Ok(is_rule(&tokens))
 }
 
 /// Where the clause of the rule of this number stands in the text of a program.
@@ -37,11 +57,10 @@ pub fn rule_span(alloc: Global, text: &[u8], number: usize) -> Result<Option<Spa
     let mut rules: usize = 0;
     for _ in 0..plain.len() {
         if let Some((clause, after)) = next_clause(rest) {
-            let tokens = placed_tokens(alloc, clause)?;
-            rules = rules.saturating_add(usize::from(is_rule(&tokens)));
+            rules = rules.saturating_add(usize::from(is_rule_clause(alloc, clause)?));
             if rules == number {
                 let before = plain.len().saturating_sub(rest.len());
-                return Ok(span_of(text, before, &tokens, clause.len()));
+                return span_of(alloc, text, before, clause);
             }
             rest = after;
         }

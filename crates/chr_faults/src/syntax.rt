@@ -5,21 +5,21 @@ use crate::token::{is_name, is_sign, is_term};
 use chr_syntax::{PlacedToken, Sign, Token};
 
 /// Whether an atom is a head or stands in a body.
-#[derive(Clone, Copy, Debug, PartialEq, Eq)]
+#[derive(Clone, Copy, PartialEq, Eq)]
 pub(crate) enum Side {
     Head,
     Body,
 }
 
 /// A directive that names symbols.
-#[derive(Clone, Copy, Debug, PartialEq, Eq)]
+#[derive(Clone, Copy)]
 pub(crate) enum Naming {
     Declare,
     Weigh,
 }
 
 /// What a clause wants next.
-#[derive(Clone, Copy, Debug, PartialEq, Eq)]
+#[derive(Clone, Copy)]
 pub(crate) enum Wanted {
     Clause,
     LabelEnd,
@@ -317,9 +317,9 @@ pub(crate) fn stuck_in<'a>(tokens: &[PlacedToken<'a>]) -> Option<Stuck<'a>> {
 impl Stuck<'_> {
     /// Whether a token was found that is no comparison where one was wanted.
     fn lacks_comparison(&self) -> bool {
-        match self.found {
-            Some(token) => self.wanted == Wanted::GuardSign && is_sign(&token, Sign::Equals),
-            None => false,
+        match (self.wanted, self.found) {
+            (Wanted::GuardSign, Some(token)) => is_sign(&token, Sign::Equals),
+            _ => false,
         }
     }
 

@@ -25,7 +25,8 @@ use Rattle.chr_sorting.specs.SortedCaseLists.{AreCombinations, MoreCombinationsT
 use Rattle.chr_overlaps.specs.declared.cases.Case.{Case}
 use Rattle.chr_types.specs.OrderTypes.{MoreTypesThan}
 use Rattle.chr_types.specs.Representatives.{AreTypes}
-use Rattle.chr_types.proofs.TooMany.{more_types, many_classes}
+use Rattle.chr_types.proofs.BesideFirst.{many_classes}
+use Rattle.chr_types.proofs.TooMany.{more_types}
 use Rattle.chr_confluence.specs.Constants.{AreConstants}
 use Rattle.chr_overlaps.specs.declared.cases.TheConstants.{MAX_TYPES}
 use Rattle.chr_overlaps.specs.CaseLists.{case_at, AreCases}

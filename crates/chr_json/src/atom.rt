@@ -70,6 +70,10 @@ fn atom_list(alloc: Global, values: &[Value]) -> Result<Vec<RawAtom<'static>>, L
 }
 
 /// The atoms of an array of 1 to [`MAX_OPERATION`] of them.
+///
+/// # Errors
+///
+/// `Shape` where the value is no such array, and `Memory` where no memory was left.
 pub fn atoms(alloc: Global, value: &Value) -> Result<Vec<RawAtom<'static>>, LineFault>
     ensures read { GivesPart (λ v. map raw_atom_view v.items) result (named_atoms_of (data_of value.now)) }
     ensures sized { IfOk result (λ v. IsOperationLength (vec_len v)) }

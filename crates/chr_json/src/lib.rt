@@ -18,7 +18,7 @@ mod piece;
 mod summary;
 mod value;
 
-pub use atom::{Arguments, RawAtom};
+pub use atom::{Arguments, RawAtom, atoms};
 pub use chr_base::limits::MAX_OPERATION;
 pub use command::{Command, DeltaVersion, command_texts_are_said, commands_are_read};
 pub use delta::operations_in;
@@ -28,3 +28,4 @@ pub use line::{is_blank, read_line, value_in};
 pub use message::message_texts_are_read;
 pub use operation::{RawOp, operation_in};
 pub use summary::ranges_in;
+pub use value::{elements, is_string};

@@ -14,6 +14,6 @@ mod recovery;
 mod staging;
 
 pub use fault::{NodeFault, Refusal};
-pub use holder::Holder;
+pub use holder::{Holder, Shower};
 pub use node::{Node, TakenIn};
 pub use recovery::crash_and_open;

@@ -1,14 +1,17 @@
 //! Nodes.
-ghost use Rattle.std.specs.Prelude.{◌≡◌, ◌≢◌, ◌++◌, [], ◌∷◌, ℕ, List, Ok, Some, true, IsTrue, IfOk, OnOk, OnErr};
-ghost use Rattle.std.specs.Bool.{OnTrue};
+ghost use Rattle.std.specs.Prelude.{◌≡◌, ◌≢◌, ◌+◌, ◌++◌, [], ◌∷◌, ℕ, List, Ok, Some, None, true, false, IsTrue};
+ghost use Rattle.std.specs.Prelude.{IfErr, IfOk, OnErr, OnOk};
+ghost use Rattle.std.specs.Bool.{OnFalse, OnTrue};
 ghost use Rattle.std.specs.FinMap as map;
 ghost use Rattle.sqlite_disk.specs.Disk.{Only};
+ghost use Rattle.chr_base.specs.Programs.{declarations};
 ghost use Rattle.chr_records.specs.Records.{records_of, IsWhole};
 ghost use Rattle.chr_feeds.specs.Feeds.{IsAtRest};
 ghost use Rattle.chr_feeds.specs.Files.{IsGrown};
-ghost use Rattle.chr_ops.specs.Operations.{IsHeld};
-ghost use Rattle.chr_node.specs.Nodes.{IsNode, IsCommitted, IsNext};
-ghost use Rattle.chr_node.specs.working.Staged.{TakesIn};
+ghost use Rattle.chr_ops.specs.Operations.{IsHeld, IsHeldOtherwise, IsNew};
+ghost use Rattle.chr_node.specs.Nodes.{IsNode, IsOwner, IsCommitted, IsNext, Keeps, KeepsOwn};
+ghost use Rattle.chr_node.specs.Refusals.{IsNotNext, NodeRefuses};
+ghost use Rattle.chr_node.specs.working.Staged.{StageRefuses, TakesIn};
 
 use crate::fault::{NodeFault, Refusal};
 use crate::holder::Holder;
@@ -63,7 +66,11 @@ impl<D: Disk + Drop, H: Holder + Drop> Node<D, H> {
         requires usable { IsTrue (D.is_usable disk) }
         ensures node { IfOk result (IsNode D.seen H.operations H.program []) }
         ensures committed { IfOk result (IsCommitted D.seen D.may_leave D.is_usable) }
+        ensures owner { IfOk result (IsOwner D.seen H.operations H.program) }
+        ensures none { IfOk result (λ node. records_of (D.seen node.feed.disk) ≡ []) }
         ensures holder { IfOk result (λ node. node.holder ≡ holder) }
+        ensures origin { IfOk result (λ node. node.origin ≡ origin) }
+        ensures last { IfOk result (λ node. node.last ≡ last) }
     {
         let feed = match Feed::create(disk) {
             Ok(feed) => feed,
@@ -82,14 +89,20 @@ impl<D: Disk + Drop, H: Holder + Drop> Node<D, H> {
 impl<D: Disk, H: Holder> Node<D, H> {
     /// Whether the next operation has to have this id.
     pub fn is_next(&self, id: OpId) -> bool
-        ensures { OnTrue result (IsNext self.now id) }
+        ensures next { OnTrue result (IsNext self.now id) }
+        ensures not { OnFalse result (IsNotNext self.now.origin self.now.last id) }
     {
-        id.origin == self.origin && self.last < u64::MAX && id.number == self.last + 1
+        if id.origin != self.origin || self.last == u64::MAX {
+            return false;
+        }
+        id.number == self.last + 1
     }
 
     /// Whether the operation is held.
     fn holds(&self, op: &Op) -> Option<bool>
-        ensures { result ≡ Some true → IsHeld (H.operations self.now.holder) op.now }
+        ensures held { result ≡ Some true → IsHeld (H.operations self.now.holder) op.now }
+        ensures otherwise { result ≡ Some false → IsHeldOtherwise (H.operations self.now.holder) op.now }
+        ensures new { result ≡ None → IsNew (H.operations self.now.holder) op.now }
     {
         let held = self.holder.get(op.id())?;
         Some(held.is_same(op.bag()))
@@ -109,7 +122,13 @@ impl<D: Disk, H: Holder> Node<D, H> {
         ensures new { result ≡ Ok Added.New → IsNext self.old op.0
             × TakesIn (H.operations self.old.holder) op (H.operations self.new.holder) }
         ensures again { result ≡ Ok Added.Again → IsHeld (H.operations self.old.holder) op }
+        ensures refused { IfErr result (NodeRefuses (H.program self.old.holder) (H.operations self.old.holder)
+            self.old.origin self.old.last op) }
+        ensures keeps { Keeps D.seen H.operations H.program (Unit {0}) self.old self.new }
+        ensures last { result ≡ Ok Added.New → self.new.last ≡ self.old.last + 1 }
         ensures same { result ≢ Ok Added.New → H.operations self.new.holder ≡ H.operations self.old.holder }
+        ensures same_last { result ≢ Ok Added.New → self.new.last ≡ self.old.last }
+        ensures origin { self.new.origin ≡ self.old.origin }
         ensures feed { self.new.feed ≡ self.old.feed }
         ensures program { H.program self.new.holder ≡ H.program self.old.holder }
     {
@@ -133,7 +152,13 @@ impl<D: Disk, H: Holder> Node<D, H> {
         ensures new { result ≡ Ok Added.New → IsNext self.old op.0
             × TakesIn (H.operations self.old.holder) op (H.operations self.new.holder) }
         ensures again { result ≡ Ok Added.Again → IsHeld (H.operations self.old.holder) op }
+        ensures refused { IfErr result
+            (StageRefuses (H.program self.old.holder) (H.operations self.old.holder) op) }
+        ensures keeps { Keeps D.seen H.operations H.program (Unit {0}) self.old self.new }
+        ensures last { result ≡ Ok Added.New → self.new.last ≡ self.old.last + 1 }
         ensures same { result ≢ Ok Added.New → H.operations self.new.holder ≡ H.operations self.old.holder }
+        ensures same_last { result ≢ Ok Added.New → self.new.last ≡ self.old.last }
+        ensures origin { self.new.origin ≡ self.old.origin }
         ensures feed { self.new.feed ≡ self.old.feed }
         ensures program { H.program self.new.holder ≡ H.program self.old.holder }
     {
@@ -143,11 +168,12 @@ impl<D: Disk, H: Holder> Node<D, H> {
                 self.last = number;
                 Ok(Added::New)
             }
-            Added::Again => Err(Refusal::NotNext),
+            Added::Again => Ok(Added::Again),
         }
     }
 
-    /// Puts all records that wait on the disk, by one call. After it all that the node was told may be answered.
+    /// Puts all records that wait on the disk, by one call. After it all that the node was told may be answered:
+    /// whatever a crash leaves has each operation of its origin that it holds.
     ///
     /// # Errors
     ///
@@ -162,7 +188,13 @@ impl<D: Disk, H: Holder> Node<D, H> {
             → records_of c ≡ records_of (D.seen self.old.feed.disk) ++ records_of self.old.waiting.items) }
         ensures any_moment { (c : List ℕ) → D.may_leave self.new.feed.disk c
             → IsGrown (records_of (D.seen self.old.feed.disk)) (records_of self.old.waiting.items) c }
+        ensures kept { OnOk result (IsOwner D.seen H.operations H.program self.old
+            → KeepsOwn (D.may_leave self.new.feed.disk) (declarations (H.program self.new.holder))
+            (H.operations self.new.holder) self.new.origin) }
+        ensures keeps { OnOk result (Keeps D.seen H.operations H.program (Unit {0}) self.old self.new) }
         ensures holder { self.new.holder ≡ self.old.holder }
+        ensures origin { self.new.origin ≡ self.old.origin }
+        ensures last { self.new.last ≡ self.old.last }
     {
         self.feed.append(alloc, &self.waiting)?;
         self.waiting.clear();
@@ -181,10 +213,14 @@ impl<D: Disk, H: Holder> Node<D, H> {
             → IsNode D.seen H.operations H.program others self.old
             → IsNode D.seen H.operations H.program (E.seen file.old ∷ others) self.new) }
         ensures err { OnErr result (H.operations self.new.holder ≡ H.operations self.old.holder) }
+        ensures keeps { Keeps D.seen H.operations H.program (IsTrue (E.is_clean file.new)) self.old self.new }
         ensures feed { self.new.feed ≡ self.old.feed }
         ensures waiting { self.new.waiting ≡ self.old.waiting }
         ensures program { H.program self.new.holder ≡ H.program self.old.holder }
+        ensures origin { self.new.origin ≡ self.old.origin }
+        ensures last { self.new.last ≡ self.old.last }
         ensures same { E.seen file.new ≡ E.seen file.old }
+        ensures usable { IsTrue (E.is_usable file.new) }
     {
         let records = recover(alloc, file)?;
         let found = find_operations(alloc, self.holder.program(), &records.texts)?;

@@ -1,8 +1,9 @@
 //! Operations that are told, with their records.
-ghost use Rattle.std.specs.Prelude.{◌≡◌, ◌≢◌, Ok};
+ghost use Rattle.std.specs.Prelude.{◌≡◌, ◌≢◌, IfErr, Ok};
 ghost use Rattle.chr_base.specs.Programs.{declarations};
 ghost use Rattle.chr_records.specs.Records.{IsWhole};
-ghost use Rattle.chr_node.specs.working.Staged.{AddsRecord, TakesIn};
+ghost use Rattle.chr_ops.specs.Operations.{IsHeld};
+ghost use Rattle.chr_node.specs.working.Staged.{AddsRecord, StageRefuses, TakesIn};
 
 use crate::fault::Refusal;
 use crate::holder::Holder;
@@ -21,6 +22,8 @@ pub(crate) fn stage<H: Holder>(
     ensures new { result ≡ Ok Added.New → TakesIn (H.operations holder.old) op (H.operations holder.new) }
     ensures record { result ≡ Ok Added.New → IsWhole records.old.items
         → AddsRecord (declarations (H.program holder.old)) op records.old.items records.new.items }
+    ensures again { result ≡ Ok Added.Again → IsHeld (H.operations holder.old) op }
+    ensures refused { IfErr result (StageRefuses (H.program holder.old) (H.operations holder.old) op) }
     ensures same { result ≢ Ok Added.New → H.operations holder.new ≡ H.operations holder.old }
     ensures same_records { result ≢ Ok Added.New → records.new.items ≡ records.old.items }
 {

@@ -12,10 +12,12 @@ use Rattle.chr_join.specs.AcceptedPrograms.{program_in}
 use Rattle.chr_join.specs.Parts.{IsOnlyNormalForm}
 use Rattle.chr_ops.specs.Operations.{Operation, Operations, told_store}
 use Rattle.chr_replica.specs.declared.refusal.Refusal.{Refusal}
+use Rattle.chr_replica.specs.declared.refusal.Limit.TheVariants as limit
 use Rattle.chr_replica.specs.declared.refusal.Refusal.TheVariants as refusal
 use Rattle.chr_replica.specs.Refusals.{RefusesTell, RefusesMerge, RefusesShow}
 use Rattle.chr_replica.specs.Replicas.{Replica}
-use Rattle.chr_node_boards.specs.working.Refusals.{IsOfTelling}
+use Rattle.chr_node.specs.Refusals.{HolderRefuses}
+use Rattle.chr_node_boards.specs.working.Refusals.{IsOfTelling, node_refusal}
 
 -- a tell is refused for the causes of a tell
 pub tell_is_of_telling : (p : Program) (s : Replica) (op : Operation) (e : Refusal) → RefusesTell p s op e
@@ -29,6 +31,20 @@ tell_is_of_telling p s op refusal.ForeignProgram h = absurd h
 tell_is_of_telling p s op (refusal.Leased count) h = absurd h
 tell_is_of_telling p s op refusal.NotThere h = absurd h
 tell_is_of_telling p s op refusal.NotAtRest h = absurd h
+
+-- what a board refuses a node's holder does
+pub tell_refused : (p : Program) (s : Replica) (op : Operation) (e : Refusal) → RefusesTell p s op e
+    → HolderRefuses p s.operations op (node_refusal e)
+tell_refused p s op refusal.UnknownSymbol h = h
+tell_refused p s op (refusal.Clash id) h = (h.1, h.2)
+tell_refused p s op (refusal.Full limit.Told) h = (h.1, h.2)
+tell_refused p s op (refusal.Full limit.Leases) h = absurd h
+tell_refused p s op refusal.Memory h = tt
+tell_refused p s op (refusal.NoLease number) h = absurd h
+tell_refused p s op refusal.ForeignProgram h = absurd h
+tell_refused p s op (refusal.Leased count) h = absurd h
+tell_refused p s op refusal.NotThere h = absurd h
+tell_refused p s op refusal.NotAtRest h = absurd h
 
 -- and so is a merge
 pub merge_is_of_telling : (p : Program) (s : Replica) (ops : List Operation) (e : Refusal) → RefusesMerge p s ops e

@@ -13,7 +13,7 @@ use crate::calls;
 use chr_base::bag::Bag;
 use chr_base::program::Program;
 use chr_join::Accepted;
-use chr_node::{Holder, Refusal};
+use chr_node::{Holder, Refusal, Shower};
 use chr_ops::{Added, Op, OpId, OpSet};
 use chr_replica::Board;
 use std::alloc::{AllocError, Global};
@@ -103,5 +103,15 @@ impl Holder for NodeBoard {
 
     fn merge(&mut self, alloc: Global, ops: &[Op]) -> Result<u64, Refusal> {
         calls::merge(alloc, &mut self.board, ops)
+    }
+}
+
+impl Shower for NodeBoard {
+    fn show(&mut self, alloc: Global) -> Result<Bag, AllocError> {
+        NodeBoard::show(self, alloc)
+    }
+
+    fn told(&self) -> u64 {
+        self.board.ops().told()
     }
 }

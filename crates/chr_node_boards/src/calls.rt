@@ -7,13 +7,13 @@ ghost use Rattle.chr_base.specs.Rules.{Step};
 ghost use Rattle.chr_base.specs.Values.{Each};
 ghost use Rattle.chr_join.specs.Parts.{IsOnlyNormalForm};
 ghost use Rattle.chr_ops.specs.Joins.{union, HasNoClash};
-ghost use Rattle.chr_ops.specs.Operations.{told_store, IsNew};
+ghost use Rattle.chr_ops.specs.Operations.{told_store, IsHeld, IsNew};
 ghost use Rattle.chr_replica.specs.Boards.{program_on};
-ghost use Rattle.chr_replica.specs.Refusals.{refusal_number as replica_number, RefusesTell, RefusesMerge};
+ghost use Rattle.chr_replica.specs.Refusals.{refusal_number as replica_number, RefusesMerge};
 ghost use Rattle.chr_replica.specs.declared.refusal.Refusal.TheVariants.{Memory as IsMemory};
-ghost use Rattle.chr_node.specs.Refusals.{refusal_number};
+ghost use Rattle.chr_node.specs.Refusals.{refusal_number, HolderRefuses};
 ghost use Rattle.chr_node_boards.specs.Shown.{operations_on};
-ghost use Rattle.chr_node_boards.specs.working.Refusals.{IsOfTelling, IsNumbered};
+ghost use Rattle.chr_node_boards.specs.working.Refusals.{IsOfTelling, IsNumbered, node_refusal};
 
 use chr_base::bag::Bag;
 use chr_node::Refusal;
@@ -24,7 +24,8 @@ use std::alloc::{AllocError, Global};
 /// The refusal of a node that has the number of a board's.
 fn node_refusal(refusal: ReplicaRefusal) -> Refusal
     requires { IsOfTelling refusal }
-    ensures { refusal_number result ≡ replica_number refusal }
+    ensures number { refusal_number result ≡ replica_number refusal }
+    ensures same { result ≡ node_refusal refusal }
 {
     match refusal {
         ReplicaRefusal::UnknownSymbol => Refusal::UnknownSymbol,
@@ -43,8 +44,9 @@ pub(crate) fn tell(alloc: Global, board: &mut Board, op: Op) -> Result<Added, Re
     ensures absent { result ≡ Ok Added.New → IsNew (operations_on board.old) op }
     ensures new { result ≡ Ok Added.New
         → operations_on board.new ≡ map.insert (operations_on board.old) op.0 op.1 }
+    ensures again { result ≡ Ok Added.Again → IsHeld (operations_on board.old) op }
     ensures same { result ≢ Ok Added.New → operations_on board.new ≡ operations_on board.old }
-    ensures refused { IfErr result (IsNumbered (RefusesTell (program_on board.old) board.old.replica op)) }
+    ensures refused { IfErr result (HolderRefuses (program_on board.old) (operations_on board.old) op) }
 {
     match board.tell(alloc, op) {
         Ok(Added::New) => Ok(Added::New),

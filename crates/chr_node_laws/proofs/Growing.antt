@@ -121,17 +121,29 @@ stays : (x y : Option Store) (s : Store) → x ≡ Some s → option_or x y ≡ 
 stays (Some b) y s is = is
 stays None y s is = absurd (cc)
 
+-- what is held in a union: what was held before, or one of the list
+pub held_in_union : (m : Operations) (os : List Operation) (o : Operation) → IsHeld (union m os) o
+    → IsHeld m o ⊎ Contains os o
+held_in_union m os o is = elim (kept_or (map.get m o.0) (find id_cmp o.0 os) o.1 (sym (get-union m os o.0) ∙ is)) [
+  | inl before ↦ inl before
+  | inr found ↦ inr (found_there os o.0 o.1 found)
+]
+
+-- what was held stays
+pub held_before : (m : Operations) (os : List Operation) (o : Operation) → IsHeld m o → IsHeld (union m os) o
+held_before m os o held = get-union m os o.0 ∙ stays (map.get m o.0) (find id_cmp o.0 os) o.1 held
+
 -- operations that clash with nothing join the set
 pub merged : (m : Operations) (os ps : List Operation) → HasNoClash m os → HoldsJust m ps
     → HoldsJust (union m os) (os ++ ps)
 merged m os ps none held x = (
-  (λ is. elim (kept_or (map.get m x.0) (find id_cmp x.0 os) x.1 (sym (get-union m os x.0) ∙ is)) [
+  (λ is. elim (held_in_union m os x is) [
     | inl before ↦ Contains-append_right os ps x ((held x).0 before)
-    | inr found ↦ Contains-append_left os ps x (found_there os x.0 x.1 found)
+    | inr new ↦ Contains-append_left os ps x new
   ]),
   (λ there. elim (Contains-append_cases os ps x there) [
     | inl new ↦ joined m os x none new
-    | inr before ↦ get-union m os x.0 ∙ stays (map.get m x.0) (find id_cmp x.0 os) x.1 ((held x).1 before)
+    | inr before ↦ held_before m os x ((held x).1 before)
   ]),
 )
 

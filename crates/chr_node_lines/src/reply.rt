@@ -4,7 +4,6 @@ ghost use Rattle.serde_json.specs.Data.{string};
 ghost use Rattle.serde_json.specs.View.{view as data_of};
 ghost use Rattle.serde_json.specs.Written.{compact_text};
 ghost use Rattle.chr_base.specs.Programs.{declarations};
-ghost use Rattle.chr_base.specs.Texts.{name_of};
 ghost use Rattle.chr_exchange.specs.Texts.{spelt_atom};
 ghost use Rattle.chr_json.specs.Messages.{array_data};
 ghost use Rattle.chr_json.specs.Printed.{argument_data, atom_data, atoms_data};
@@ -17,7 +16,7 @@ use chr_base::bag::Bag;
 use chr_base::program::Program;
 use chr_base::text::in_print_order;
 use chr_ops::OpId;
-use chr_queries::Changes;
+use chr_queries::{Changes, name_of};
 use serde_json::Value;
 use std::alloc::{AllocError, Global};
 
@@ -82,17 +81,6 @@ fn push_arguments(parts: &mut Vec<Value>, values: &[i64]) -> Result<(), AllocErr
         parts.push(Value::from(*value))?;
     }
     Ok(())
-}
-
-/// The name of an atom's symbol, or no text where it isn't declared.
-fn name_of<'a>(program: &'a Program, atom: &Atom) -> &'a str
-    ensures { result.now ≡ name_of (declarations program.now) atom.now }
-{
-    if usize::from(atom.symbol.0) < program.symbols() {
-        program.name_of(atom.symbol)
-    } else {
-        ""
-    }
 }
 
 /// An atom as an array of its name and its arguments.

@@ -1,12 +1,11 @@
 //! What lines ask.
-ghost use Rattle.std.specs.Prelude.{◌≡◌, ◌≤◌, IfOk, Some, length, map, option_map};
+ghost use Rattle.std.specs.Prelude.{◌≡◌, ◌≤◌, Some, length, map};
 ghost use Rattle.std.specs.Option.{ok_or};
 ghost use Rattle.serde_json.specs.View.{view as data_of};
 ghost use Rattle.chr_base.specs.declared.limits.TheConstants.{MAX_ARITY};
 ghost use Rattle.chr_base.specs.Programs.{declarations};
 ghost use Rattle.chr_base.specs.Traversals.{each};
 ghost use Rattle.chr_json.specs.Reads.{raw_atom_view};
-ghost use Rattle.chr_json.specs.Values.{elements};
 ghost use Rattle.serde_json.specs.Find.{as_str};
 ghost use Rattle.chr_node_lines.specs.Asked.{alone, asked_by, atoms_told, cause_of_atoms, cause_of_name};
 ghost use Rattle.chr_node_lines.specs.Asked.{declared_pattern, Gives, has_name, line_asks, pattern_of, request_view};
@@ -20,7 +19,7 @@ use chr_base::atom::SymbolId;
 use chr_base::limits::MAX_ARITY;
 use chr_base::program::Program;
 use chr_exchange::declared_operation;
-use chr_json::{MAX_LINE, RawAtom, operation_in, value_in};
+use chr_json::{MAX_LINE, RawAtom, elements, operation_in, value_in};
 use chr_ops::{Op, OpId};
 use chr_queries::Wanted;
 use serde_json::Value;
@@ -43,14 +42,6 @@ pub enum Request {
     Changes,
     /// How the node is.
     Status,
-}
-
-/// The elements of an array.
-fn elements(value: &Value) -> Option<&[Value]>
-    ensures { option_map (λ s. map data_of s.now) result ≡ elements (data_of value.now) }
-{
-    let items = value.as_array()?;
-    Some(items.as_slice())
 }
 
 /// Whether some symbol has this name.

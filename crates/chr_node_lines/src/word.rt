@@ -1,9 +1,9 @@
 //! The words of a node.
 ghost use Rattle.std.specs.Prelude.{◌≡◌};
 ghost use Rattle.serde_json.specs.View.{view as data_of};
-ghost use Rattle.chr_json.specs.Values.{is_string};
 ghost use Rattle.chr_node_lines.specs.Asked.{word_of};
 
+use chr_json::is_string;
 use serde_json::Value;
 
 /// What a line begins with.
@@ -25,33 +25,23 @@ pub(crate) enum Word {
     Status,
 }
 
-/// Whether the value is this text.
-fn is_text(value: &Value, text: &str) -> bool
-    ensures { result ≡ is_string text.now (data_of value.now) }
-{
-    match value.as_str() {
-        Some(found) => found == text,
-        None => false,
-    }
-}
-
 /// The word that a value is.
 pub(crate) fn word_in(value: &Value) -> Option<Word>
     ensures { result ≡ word_of (data_of value.now) }
 {
-    if is_text(value, "tell") {
+    if is_string(value, "tell") {
         Some(Word::Tell)
-    } else if is_text(value, "last") {
+    } else if is_string(value, "last") {
         Some(Word::Last)
-    } else if is_text(value, "show") {
+    } else if is_string(value, "show") {
         Some(Word::Show)
-    } else if is_text(value, "find") {
+    } else if is_string(value, "find") {
         Some(Word::Find)
-    } else if is_text(value, "count") {
+    } else if is_string(value, "count") {
         Some(Word::Count)
-    } else if is_text(value, "changes") {
+    } else if is_string(value, "changes") {
         Some(Word::Changes)
-    } else if is_text(value, "status") {
+    } else if is_string(value, "status") {
         Some(Word::Status)
     } else {
         None

@@ -1,5 +1,5 @@
-//! Tests of nodes whose operations a board holds, over files in memory, in the public words of `chr_node` and
-//! `chr_node_boards`. There is nothing here but tests.
+//! Tests of nodes that answer lines and whose operations a board holds, over files in memory. There is nothing here but
+//! tests.
 #![tactic(auto)]
 
 #[cfg(test)]

@@ -8,7 +8,7 @@ use Rattle.chr_base.specs.declared.rule.Rule.{Rule}
 use Rattle.chr_base.specs.Rules.{heads_at, heads_of, valued}
 use Rattle.chr_plans.specs.declared.rows.Seat.{Seat}
 use Rattle.chr_plans.specs.declared.plan.Plan.{Plan}
-use Rattle.chr_plans.specs.Rows.{Tables, Columns}
+use Rattle.chr_plans.specs.Rows.{Tables, Columns, Ranks}
 use Rattle.chr_plans.specs.declared.react.Standing.{Standing}
 use Rattle.chr_plans.specs.Plans.{FirstNoneAbove, first_place, IsPlan, FitsTables, partners_of}
 use Rattle.chr_plans.specs.Seats.{IsSeated, NoPartners, head, seat}
@@ -53,36 +53,37 @@ module _ (rules : List Rule) (rows : Tables) (columns : Columns) (a : Atom) (pla
   ]
 
   -- where this plan's search begins, and where it stops
-  pub row_passed : (from : Option Standing) (found : Option ℕ) → IfSome from (MayResume rules rows a plans)
+  pub row_passed : (rank : Ranks) (from : Option Standing) (found : Option ℕ)
+      → IfSome from (MayResume rules rows rank a plans)
       → IfSome found (λ row. from ≡ Some (record { plan = j; row = row }))
-      → IfSome found (λ row. FirstNoneAbove r rows plan.place a plan.lookups.items row)
-  row_passed from None m e = tt
-  row_passed from (Some row) m e =
+      → IfSome found (λ row. FirstNoneAbove r rows rank plan.place a plan.lookups.items row)
+  row_passed rank from None m e = tt
+  row_passed rank from (Some row) m e =
       let w = rw e at m in
       let above = rw at at w.1 in
       above r is_rule
 
-  pub resumes : (seats : List Seat) → ((k : ℕ) → k < j → NoneBy rules rows a (slice_get plans k))
-      → FirstNoneAbove r rows plan.place a plan.lookups.items (seat seats (first_place plan.lookups.items)).row
-      → MayResume rules rows a plans (record { plan = j; row = first_row (slice_get plans j) seats })
-  resumes seats before above = (
+  pub resumes : (rank : Ranks) (seats : List Seat) → ((k : ℕ) → k < j → NoneBy rules rows a (slice_get plans k))
+      → FirstNoneAbove r rows rank plan.place a plan.lookups.items (seat seats (first_place plan.lookups.items)).row
+      → MayResume rules rows rank a plans (record { plan = j; row = first_row (slice_get plans j) seats })
+  resumes rank seats before above = (
     before,
-    rw at (λ q e. subst (λ x. FirstNoneAbove x rows plan.place a plan.lookups.items
+    rw at (λ q e. subst (λ x. FirstNoneAbove x rows rank plan.place a plan.lookups.items
         (seat seats (first_place plan.lookups.items)).row) (same_Some r q (sym is_rule ∙ e)) above),
   )
 
 -- the plans before the one at which a search begins
-pub before_first : (rules : List Rule) (rows : Tables) (a : Atom) (plans : List Plan) (from : Option Standing) (n : ℕ)
-    → IfSome from (MayResume rules rows a plans)
+pub before_first : (rules : List Rule) (rows : Tables) (rank : Ranks) (a : Atom) (plans : List Plan)
+    (from : Option Standing) (n : ℕ) → IfSome from (MayResume rules rows rank a plans)
     → IfSome from (λ s. n ≡ s.plan) → IfNone from (n ≡ 0) → (k : ℕ) → k < n → NoneBy rules rows a (slice_get plans k)
-before_first rules rows a plans None n m some none k l = absurd (omega (arith, l, none))
-before_first rules rows a plans (Some s) n m some none k l = m.0 k (omega (arith, l, some))
+before_first rules rows rank a plans None n m some none k l = absurd (omega (arith, l, none))
+before_first rules rows rank a plans (Some s) n m some none k l = m.0 k (omega (arith, l, some))
 
 -- rows only died
 abbrev pub OnlyDied : Tables → Tables → Type 0
 OnlyDied before after = (t n : ℕ) (b : Atom) → after t n ≡ Some b → before t n ≡ Some b
 
-module _ (rules : List Rule) (before after : Tables) (died : OnlyDied before after) (a : Atom) where
+module _ (rules : List Rule) (before after : Tables) (rank : Ranks) (died : OnlyDied before after) (a : Atom) where
   seated_before : (r : Rule) (p : ℕ) (heads : List Atom) (seats : List Seat) → IsSeated r after p heads seats
       → IsSeated r before p heads seats
   seated_before r p heads seats s = record {
@@ -95,14 +96,15 @@ module _ (rules : List Rule) (before after : Tables) (died : OnlyDied before aft
   none_later None none = none
   none_later (Some plan) none = λ r e heads seats s. none r e heads seats (seated_before r plan.place heads seats s)
 
-  above_later : (o : Option Plan) (row : ℕ) → NoneAboveBy rules before a o row → NoneAboveBy rules after a o row
+  above_later : (o : Option Plan) (row : ℕ) → NoneAboveBy rules before rank a o row
+      → NoneAboveBy rules after rank a o row
   above_later None row none = none
   above_later (Some plan) row none = λ r e more heads seats s. none r e more heads seats
       (seated_before r plan.place heads seats s)
 
-  -- where a search may go on, it may do so after rows have died
-  pub resume_later : (plans : List Plan) (s : Standing) → MayResume rules before a plans s
-      → MayResume rules after a plans s
+  -- where a search may go on, it may do so after rows have died that keep their ranks
+  pub resume_later : (plans : List Plan) (s : Standing) → MayResume rules before rank a plans s
+      → MayResume rules after rank a plans s
   resume_later plans s m = (
     λ k l. none_later (slice_get plans k) (m.0 k l),
     above_later (slice_get plans s.plan) s.row m.1,

@@ -1,10 +1,11 @@
 -- What each step of the search keeps.
 use Rattle.std.proofs.Common.{◌≡◌, ℕ, ℤ, ◌+◌, ◌<◌, ◌≤◌, inl, inr, List, length, get_or, set, map, Option, true, false}
 use Rattle.std.proofs.Common.{refl, sym, ap, subst, ◌∙◌, arith}
-use Rattle.std.specs.Prelude.{Some, None, IfSome, IfNone, option_map, ⊤}
+use Rattle.std.specs.Prelude.{Some, None, IfSome, IfNone, IsTrue, is_some, option_map, slice_get, ⊤}
 use Rattle.std.specs.List.{list_all}
 use Rattle.std.proofs.lemmas.Bool.{cases_lt}
 use Rattle.std.proofs.lemmas.List.{get_or-set_same, get_or-set_other, ext_get_or}
+use Rattle.std.proofs.lemmas.Option.{slice_get_read}
 use Rattle.chr_base.specs.declared.atom.Atom.{Atom}
 use Rattle.chr_base.specs.declared.rule.Rule.{Rule}
 use Rattle.chr_base.specs.Rules.{HasInstance, heads_of}
@@ -14,57 +15,61 @@ use Rattle.chr_plans.specs.declared.plan.Lookup.{Lookup}
 use Rattle.chr_plans.specs.declared.rows.Seat.{Seat}
 use Rattle.chr_base.specs.Atoms.{no_atom}
 use Rattle.chr_plans.specs.Keys.{source_value, passes, allows, key_of, Spans}
-use Rattle.chr_plans.specs.Rows.{Tables, Columns, HasKey, LiesIn}
+use Rattle.chr_plans.specs.Rows.{Tables, Columns, Ranks, HaveOwnRanks, HasKey, LiesIn}
 use Rattle.chr_plans.specs.Seats.{head, seat, no_seat, atom_in, IsOther, IsSeated}
-use Rattle.chr_plans.specs.Plans.{IsPlan, FitsTables, IsKnown, partners_of, columns_of}
+use Rattle.chr_plans.specs.Plans.{IsPlan, FitsTables, IsKnown, partners_of, columns_of, rank_by}
 use Rattle.chr_plans.specs.working.Searching.{AgreeAtKnown, NoneFrom, Past, PastFrom, AreStarted, looked_in}
 use Rattle.chr_plans.proofs.Values.{key_known, tests_known, limits_known, shape_known}
 use Rattle.chr_plans.proofs.Places.{place_is, partner_is, partners_len}
 
--- a row and one, 0 for none
-abbrev pub bound : Option ℕ → ℕ
-bound None = 0
-bound (Some row) = row + 1
+-- the rank of a row and one, 0 for none
+abbrev pub bound : (ℕ → ℕ) → Option ℕ → ℕ
+bound rank None = 0
+bound rank (Some row) = rank row + 1
 
 -- the row is what is looked for
 abbrev pub IsWanted : Option (List ℕ) → List ℤ → Span → Option Atom → Type 0
 IsWanted columns key span row = HasKey columns key row × LiesIn span row
 
--- the rows with these properties lie below what was found
-pub below_found : (P Q R : ℕ → Type 0) (found : Option ℕ) → IfSome found (λ row. (r : ℕ) → P r → Q r → R r → r ≤ row)
+-- the rows with these properties have at most the rank of what was found
+pub below_found : (rank : ℕ → ℕ) (P Q R : ℕ → Type 0) (found : Option ℕ)
+    → IfSome found (λ row. (r : ℕ) → P r → Q r → R r → rank r ≤ rank row)
     → IfNone found ((r : ℕ) → P r → Q r → R r → ⊥)
-    → (r : ℕ) → P r → Q r → R r → r < bound found
-below_found P Q R None newest none r p q w = absurd (none r p q w)
-below_found P Q R (Some row) newest none r p q w = let l = newest r p q w in omega (arith, l)
+    → (r : ℕ) → P r → Q r → R r → rank r < bound rank found
+below_found rank P Q R None greatest none r p q w = absurd (none r p q w)
+below_found rank P Q R (Some row) greatest none r p q w = let l = greatest r p q w in omega (arith, l)
 
 -- where all rows are looked at
-pub newest_of_all : (P Q : ℕ → Type 0) (found : Option ℕ) → IfSome found (λ row. (r : ℕ) → P r → Q r → r ≤ row)
-    → IfSome found (λ row. (r : ℕ) → ⊤ → P r → Q r → r ≤ row)
-newest_of_all P Q None h = tt
-newest_of_all P Q (Some row) h = λ r _ p q. h r p q
+pub greatest_of_all : (rank : ℕ → ℕ) (P Q : ℕ → Type 0) (found : Option ℕ)
+    → IfSome found (λ row. (r : ℕ) → P r → Q r → rank r ≤ rank row)
+    → IfSome found (λ row. (r : ℕ) → ⊤ → P r → Q r → rank r ≤ rank row)
+greatest_of_all rank P Q None h = tt
+greatest_of_all rank P Q (Some row) h = λ r _ p q. h r p q
 
 pub none_of_all : (P Q : ℕ → Type 0) (found : Option ℕ) → IfNone found ((r : ℕ) → P r → Q r → ⊥)
     → IfNone found ((r : ℕ) → ⊤ → P r → Q r → ⊥)
 none_of_all P Q None h = λ r _ p q. h r p q
 none_of_all P Q (Some row) h = tt
 
-pub below_next : (P : ℕ → Type 0) (at : ℕ) (found : Option ℕ) → IfSome found (λ row. (r : ℕ) → r < at → P r → r ≤ row)
-    → IfNone found ((r : ℕ) → r < at → P r → ⊥)
-    → (r : ℕ) → r < at → P r → r < bound found
-below_next P at None newest none r below p = absurd (none r below p)
-below_next P at (Some row) newest none r below p = let l = newest r below p in omega (arith, l)
+pub below_next : (rank : ℕ → ℕ) (P : ℕ → Type 0) (at : ℕ) (found : Option ℕ)
+    → IfSome found (λ row. (r : ℕ) → rank r < at → P r → rank r ≤ rank row)
+    → IfNone found ((r : ℕ) → rank r < at → P r → ⊥)
+    → (r : ℕ) → rank r < at → P r → rank r < bound rank found
+below_next rank P at None greatest none r below p = absurd (none r below p)
+below_next rank P at (Some row) greatest none r below p = let l = greatest r below p in omega (arith, l)
 
 -- two properties that are told one after the other, told as one
-pub newest_next : (P Q : ℕ → Type 0) (at : ℕ) (found : Option ℕ)
-    → IfSome found (λ row. (r : ℕ) → r < at → P r → Q r → r ≤ row)
-    → IfSome found (λ row. (r : ℕ) → r < at → P r × Q r → r ≤ row)
-newest_next P Q at None h = tt
-newest_next P Q at (Some row) h = λ r l w. h r l w.0 w.1
+pub greatest_next : (rank : ℕ → ℕ) (P Q : ℕ → Type 0) (at : ℕ) (found : Option ℕ)
+    → IfSome found (λ row. (r : ℕ) → rank r < at → P r → Q r → rank r ≤ rank row)
+    → IfSome found (λ row. (r : ℕ) → rank r < at → P r × Q r → rank r ≤ rank row)
+greatest_next rank P Q at None h = tt
+greatest_next rank P Q at (Some row) h = λ r l w. h r l w.0 w.1
 
-pub none_next : (P Q : ℕ → Type 0) (at : ℕ) (found : Option ℕ) → IfNone found ((r : ℕ) → r < at → P r → Q r → ⊥)
-    → IfNone found ((r : ℕ) → r < at → P r × Q r → ⊥)
-none_next P Q at None h = λ r l w. h r l w.0 w.1
-none_next P Q at (Some row) h = tt
+pub none_next : (rank : ℕ → ℕ) (P Q : ℕ → Type 0) (at : ℕ) (found : Option ℕ)
+    → IfNone found ((r : ℕ) → rank r < at → P r → Q r → ⊥)
+    → IfNone found ((r : ℕ) → rank r < at → P r × Q r → ⊥)
+none_next rank P Q at None h = λ r l w. h r l w.0 w.1
+none_next rank P Q at (Some row) h = tt
 
 module _ (r : Rule) (p : ℕ) (lookups : List Lookup) (n : ℕ) (l : Lookup) (rows : Tables) (columns : Columns)
     (heads : List Atom) (seats : List Seat)
@@ -75,6 +80,16 @@ module _ (r : Rule) (p : ℕ) (lookups : List Lookup) (n : ℕ) (l : Lookup) (ro
 
   place_here : get_or (looked_in lookups) n 0 ≡ l.partner.place
   place_here = place_is lookups n l left here
+
+  rank_of : (rank : Ranks) (row : ℕ) → rank_by rank (slice_get lookups n) row ≡ rank l.table l.index row
+  rank_of rank row = ap (λ o. rank_by rank o row) (slice_get_read lookups (length lookups) n l refl left (sym here))
+
+  -- the rank of the row in which the head at the place of this look-up sits
+  rank_here : (rank : Ranks) (ss : List Seat)
+      → rank_by rank (slice_get lookups n) (seat ss (get_or (looked_in lookups) n 0)).row
+      ≡ rank l.table l.index (seat ss l.partner.place).row
+  rank_here rank ss = ap (λ k. rank_by rank (slice_get lookups n) (seat ss k).row) place_here
+      ∙ rank_of rank (seat ss l.partner.place).row
 
   pub place_within : l.partner.place < length (heads_of r)
   place_within = let a = plan.within n (within n left) in let e = place_here in omega (arith, a, e)
@@ -128,29 +143,32 @@ module _ (r : Rule) (p : ℕ) (lookups : List Lookup) (n : ℕ) (l : Lookup) (ro
       let z : false ≡ true = failed ∙ all in
       cc
 
-  -- where the search begins below some row, no instance was passed
-  reached : (from : Option ℕ) → IfSome from (λ row. PastFrom r rows p lookups n heads seats (row + 1))
+  -- where the search begins at the rank of some row, no instance was passed
+  reached : (rank : Ranks) (from : Option ℕ) → IfSome from (λ row. PastFrom r rows rank p lookups n heads seats row)
       → (hs : List Atom) (ss : List Seat) → IsSeated r rows p hs ss
       → AgreeAtKnown (looked_in lookups) p n hs ss heads seats
-      → IfSome from (λ first. (seat ss l.partner.place).row ≤ first)
-  reached None before hs ss s same = tt
-  reached (Some first) before hs ss s same = elim (cases_lt first (seat ss l.partner.place).row) as (λ _.
-      (seat ss l.partner.place).row ≤ first) [
-        | inl less ↦ absurd (before left hs ss s same (let e = ap (λ k. (seat ss k).row) place_here in
-            omega (arith, less, e)))
+      → IfSome from (λ first. rank l.table l.index (seat ss l.partner.place).row ≤ rank l.table l.index first)
+  reached rank None before hs ss s same = tt
+  reached rank (Some first) before hs ss s same =
+      elim (cases_lt (rank l.table l.index first) (rank l.table l.index (seat ss l.partner.place).row)) as (λ _.
+      rank l.table l.index (seat ss l.partner.place).row ≤ rank l.table l.index first) [
+        | inl less ↦ absurd (before left hs ss s same (let e = rank_here rank ss in let f = rank_of rank first in
+            omega (arith, less, e, f)))
         | inr most ↦ most
       ]
 
-  pub past_begun : (span : Span) (from found : Option ℕ)
+  pub past_begun : (rank : Ranks) (span : Span) (from found : Option ℕ)
       → ((a : Atom) → list_all (allows heads a) l.partner.limits.items ≡ true → Spans span a)
-      → IfSome from (λ row. PastFrom r rows p lookups n heads seats (row + 1))
-      → ((q : ℕ) → IfSome from (λ first. q ≤ first) → HasKey (columns l.table l.index)
-      (map (λ k. source_value heads k.source) l.partner.key.items) (rows l.table q) → LiesIn span (rows l.table q)
-      → q < bound found)
-      → Past r rows p (looked_in lookups) n l.partner.place heads seats (bound found)
-  past_begun span from found all before below hs ss s same above =
+      → IfSome from (λ row. PastFrom r rows rank p lookups n heads seats row)
+      → ((q : ℕ) → IfSome from (λ first. rank l.table l.index q ≤ rank l.table l.index first)
+      → HasKey (columns l.table l.index) (map (λ k. source_value heads k.source) l.partner.key.items) (rows l.table q)
+      → LiesIn span (rows l.table q)
+      → rank l.table l.index q < bound (rank l.table l.index) found)
+      → Past r rows (rank l.table l.index) p (looked_in lookups) n l.partner.place heads seats
+      (bound (rank l.table l.index) found)
+  past_begun rank span from found all before below hs ss s same above =
       let w = row_known hs ss s same in
-      let a = below (seat ss l.partner.place).row (reached from before hs ss s same) w.1 (w.2 span all) in
+      let a = below (seat ss l.partner.place).row (reached rank from before hs ss s same) w.1 (w.2 span all) in
       omega (arith, a, above)
 
   -- the seat of this look-up, after the search of the next
@@ -160,31 +178,34 @@ module _ (r : Rule) (p : ℕ) (lookups : List Lookup) (n : ℕ) (l : Lookup) (ro
   seat_found heads2 as' seats2 ts a x lt same = (same l.partner.place (inr (n, omega arith, place_here))).1
       ∙ get_or-set_same ts l.partner.place x no_seat lt
 
-  pub past_found : (seats2 : List Seat) (row : ℕ) → Past r rows p (looked_in lookups) n l.partner.place heads seats
-      (row + 1) → (seat seats2 l.partner.place).row ≡ row
-      → PastFrom r rows p lookups n heads seats ((seat seats2 (get_or (looked_in lookups) n 0)).row + 1)
-  past_found seats2 row past is more hs ss s same above =
-      let e = ap (λ k. (seat seats2 k).row) place_here ∙ is in
-      let f = ap (λ k. (seat ss k).row) place_here in
+  pub past_found : (rank : Ranks) (seats2 : List Seat) (row : ℕ)
+      → Past r rows (rank l.table l.index) p (looked_in lookups) n l.partner.place heads seats
+      (rank l.table l.index row + 1) → (seat seats2 l.partner.place).row ≡ row
+      → PastFrom r rows rank p lookups n heads seats (seat seats2 (get_or (looked_in lookups) n 0)).row
+  past_found rank seats2 row past is more hs ss s same above =
+      let e = rank_here rank seats2 ∙ ap (rank l.table l.index) is in
+      let f = rank_here rank ss in
       past hs ss s same (omega (arith, above, e, f))
 
   -- the row that was looked at makes no instance
-  pub past_next : (span : Span) (row to : ℕ) → ((a : Atom) → list_all (allows heads a) l.partner.limits.items ≡ true
-      → Spans span a)
-      → ((q : ℕ) → q < row → IsWanted (columns l.table l.index)
-      (map (λ k. source_value heads k.source) l.partner.key.items) span (rows l.table q) → q < to)
+  pub past_next : (rank : ℕ → ℕ) (span : Span) (row to : ℕ) → HaveOwnRanks (rows l.table) rank
+      → IsTrue (is_some (rows l.table row))
+      → ((a : Atom) → list_all (allows heads a) l.partner.limits.items ≡ true → Spans span a)
+      → ((q : ℕ) → rank q < rank row → IsWanted (columns l.table l.index)
+      (map (λ k. source_value heads k.source) l.partner.key.items) span (rows l.table q) → rank q < to)
       → ((hs : List Atom) (ss : List Seat) → IsSeated r rows p hs ss
       → AgreeAtKnown (looked_in lookups) p n hs ss heads seats
       → seat ss l.partner.place ≡ record { table = l.table; row = row } → ⊥)
-      → Past r rows p (looked_in lookups) n l.partner.place heads seats (row + 1)
-      → Past r rows p (looked_in lookups) n l.partner.place heads seats to
-  past_next span row to all below not past hs ss s same from =
+      → Past r rows rank p (looked_in lookups) n l.partner.place heads seats (rank row + 1)
+      → Past r rows rank p (looked_in lookups) n l.partner.place heads seats to
+  past_next rank span row to own lives all below not past hs ss s same from =
       let w = row_known hs ss s same in
-      elim (cases_lt row (seat ss l.partner.place).row) as (λ _. ⊥) [
+      elim (cases_lt (rank row) (rank (seat ss l.partner.place).row)) as (λ _. ⊥) [
         | inl above ↦ past hs ss s same (omega (arith, above))
-        | inr most ↦ elim (cases_lt (seat ss l.partner.place).row row) as (λ _. ⊥) [
+        | inr most ↦ elim (cases_lt (rank (seat ss l.partner.place).row) (rank row)) as (λ _. ⊥) [
           | inl less ↦ (let a = below (seat ss l.partner.place).row less (w.1, w.2 span all) in omega (arith, a, from))
-          | inr least ↦ (let same_row : (seat ss l.partner.place).row ≡ row = omega (arith, most, least) in
+          | inr least ↦ (let same_row : (seat ss l.partner.place).row ≡ row =
+              own (seat ss l.partner.place).row row (ap is_some w.1.1) lives (omega (arith, most, least)) in
               not hs ss s same (λ i. record { table = w.0 i; row = same_row i }))
         ]
       ]

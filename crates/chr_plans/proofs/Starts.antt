@@ -1,6 +1,6 @@
 -- Where a search starts: the active atom at its place, and no partner yet.
-use Rattle.std.proofs.Common.{◌≡◌, ℕ, ◌+◌, ◌++◌, inl, inr, List, length, set, take, drop, refl, sym, ap, ◌∙◌, arith}
-use Rattle.std.specs.Prelude.{Option, Some, None, IfSome}
+use Rattle.std.proofs.Common.{◌≡◌, ℕ, ◌++◌, inl, inr, List, length, set, take, drop, refl, sym, ap, ◌∙◌, arith}
+use Rattle.std.specs.Prelude.{Option, Some, None, IfSome, slice_get}
 use Rattle.std.proofs.lemmas.Bool.{cases_lt}
 use Rattle.std.proofs.lemmas.List.{get_or-set_same, get_or-set_other, get_or_past, length-set, append-nil, take_all}
 use Rattle.std.proofs.lemmas.List.{drop_all}
@@ -8,9 +8,9 @@ use Rattle.chr_base.specs.declared.atom.Atom.{Atom}
 use Rattle.chr_base.specs.declared.rule.Rule.{Rule}
 use Rattle.chr_plans.specs.declared.plan.Lookup.{Lookup}
 use Rattle.chr_plans.specs.declared.rows.Seat.{Seat}
-use Rattle.chr_plans.specs.Rows.{Tables}
+use Rattle.chr_plans.specs.Rows.{Tables, Ranks}
 use Rattle.chr_plans.specs.Seats.{head, seat, no_seat, atom_in, IsSeated, NoPartners}
-use Rattle.chr_plans.specs.Plans.{IsPlan, FirstNoneAbove, first_place, partners_of}
+use Rattle.chr_plans.specs.Plans.{IsPlan, FirstNoneAbove, first_place, partners_of, rank_by}
 use Rattle.chr_plans.specs.working.Searching.{AgreeAtKnown, NoneFrom, PastFrom, looked_in}
 use Rattle.chr_plans.proofs.Places.{partners_len}
 
@@ -52,20 +52,22 @@ none_started r rows p places heads seats a h z none hs ss s active =
     same = agree_started p places heads seats a hs ss h z active
 
 -- the rows of the first partner that are passed from the start, and those that were passed when it was found
-pub past_started : (r : Rule) (rows : Tables) (p : ℕ) (lookups : List Lookup) (heads : List Atom) (seats : List Seat)
-    (a : Atom) (from : Option ℕ) → head heads p ≡ a
-    → IfSome from (λ row. FirstNoneAbove r rows p a lookups row)
-    → IfSome from (λ row. PastFrom r rows p lookups 0 heads seats (row + 1))
-past_started r rows p lookups heads seats a None h none = tt
-past_started r rows p lookups heads seats a (Some row) h none =
+pub past_started : (r : Rule) (rows : Tables) (rank : Ranks) (p : ℕ) (lookups : List Lookup) (heads : List Atom)
+    (seats : List Seat) (a : Atom) (from : Option ℕ) → head heads p ≡ a
+    → IfSome from (λ row. FirstNoneAbove r rows rank p a lookups row)
+    → IfSome from (λ row. PastFrom r rows rank p lookups 0 heads seats row)
+past_started r rows rank p lookups heads seats a None h none = tt
+past_started r rows rank p lookups heads seats a (Some row) h none =
     λ more hs ss s same above. none more hs ss s ((same p (inl refl)).0 ∙ h) (omega (arith, above))
 
-pub above_started : (r : Rule) (rows : Tables) (p : ℕ) (lookups : List Lookup) (heads : List Atom) (seats : List Seat)
-    (a : Atom) (row : ℕ) → IsPlan r p (partners_of lookups) → head heads p ≡ a
-    → seat seats p ≡ no_seat → PastFrom r rows p lookups 0 heads seats (row + 1) → FirstNoneAbove r rows p a lookups row
-above_started r rows p lookups heads seats a row plan h z past more hs ss s active above =
+pub above_started : (r : Rule) (rows : Tables) (rank : Ranks) (p : ℕ) (lookups : List Lookup) (heads : List Atom)
+    (seats : List Seat) (a : Atom) (row : ℕ) → IsPlan r p (partners_of lookups) → head heads p ≡ a
+    → seat seats p ≡ no_seat → PastFrom r rows rank p lookups 0 heads seats row
+    → FirstNoneAbove r rows rank p a lookups row
+above_started r rows rank p lookups heads seats a row plan h z past more hs ss s active above =
     let other : first_place lookups ≡ p → ⊥ = plan.others 0 (let n = partners_len lookups in omega (arith, n, more)) in
-    let e = ap (λ (x : Seat). x.row) (get_or-set_other ss p (first_place lookups) no_seat no_seat other) in
+    let e = ap (λ (x : Seat). rank_by rank (slice_get lookups 0) x.row)
+    (get_or-set_other ss p (first_place lookups) no_seat no_seat other) in
     past more hs (set ss p no_seat) (forgotten r rows p hs ss s)
     (agree_started p (looked_in lookups) heads seats a hs ss h z active) (omega (arith, above, e))
 

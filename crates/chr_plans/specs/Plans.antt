@@ -1,5 +1,6 @@
 -- Plans of an occurrence: what each keeps, and how its look-ups fit tables.
-use Rattle.std.specs.Prelude.{◌≡◌, ℕ, ◌<◌, ◌⊎◌, List, [], ◌∷◌, map, length, get_or, Some, true, ⊤}
+use Rattle.std.specs.Prelude.{◌≡◌, ℕ, ◌<◌, ◌⊎◌, List, [], ◌∷◌, map, length, get_or, slice_get, Option, Some, None}
+use Rattle.std.specs.Prelude.{true, ⊤}
 use Rattle.chr_base.specs.declared.atom.Atom.{Atom}
 use Rattle.chr_base.specs.declared.term.Pattern.{Pattern}
 use Rattle.chr_base.specs.declared.rule.Rule.{Rule}
@@ -12,7 +13,7 @@ use Rattle.chr_plans.specs.declared.key.Limit.{Limit}
 use Rattle.chr_plans.specs.declared.plan.Partner.{Partner}
 use Rattle.chr_plans.specs.declared.plan.Lookup.{Lookup}
 use Rattle.chr_plans.specs.Keys.{argument, source_value, passes, allows}
-use Rattle.chr_plans.specs.Rows.{Tables, Columns}
+use Rattle.chr_plans.specs.Rows.{Tables, Columns, Ranks}
 use Rattle.chr_plans.specs.Seats.{head, NoneAbove}
 
 -- the head of the rule at a place
@@ -95,6 +96,13 @@ pub record FitsTables (r : Rule) (lookups : List Lookup) (rows : Tables) (column
 abbrev pub first_place : List Lookup → ℕ
 first_place lookups = get_or (places_of (partners_of lookups)) 0 0
 
--- where there are partners, in no instance with the atom at its place the first one sits in a row above this one
-abbrev pub FirstNoneAbove : Rule → Tables → ℕ → Atom → List Lookup → ℕ → Type 0
-FirstNoneAbove r rows p a lookups row = 0 < length lookups → NoneAbove r rows p a (first_place lookups) row
+-- the ranks of rows in the index of a look-up; where there is no look-up, the rows' numbers
+abbrev pub rank_by : Ranks → Option Lookup → ℕ → ℕ
+rank_by rank None row = row
+rank_by rank (Some l) row = rank l.table l.index row
+
+-- where there are partners, in no instance with the atom at its place the first one sits in a row of a greater rank
+-- than this one
+abbrev pub FirstNoneAbove : Rule → Tables → Ranks → ℕ → Atom → List Lookup → ℕ → Type 0
+FirstNoneAbove r rows rank p a lookups row =
+    0 < length lookups → NoneAbove r rows (rank_by rank (slice_get lookups 0)) p a (first_place lookups) row

@@ -5,7 +5,7 @@ use Rattle.chr_base.specs.declared.rule.Rule.{Rule}
 use Rattle.chr_base.specs.Rules.{heads_at, heads_of, valued}
 use Rattle.chr_plans.specs.declared.rows.Seat.{Seat}
 use Rattle.chr_plans.specs.declared.plan.Plan.{Plan}
-use Rattle.chr_plans.specs.Rows.{Tables, Columns}
+use Rattle.chr_plans.specs.Rows.{Tables, Columns, Ranks}
 use Rattle.chr_plans.specs.declared.react.Standing.{Standing}
 use Rattle.chr_plans.specs.Seats.{IsSeated, NoPartners, head, seat}
 use Rattle.chr_plans.specs.Plans.{IsPlan, FitsTables, FirstNoneAbove, first_place, partners_of}
@@ -36,15 +36,15 @@ abbrev pub first_row : Option Plan → List Seat → ℕ
 first_row None seats = 0
 first_row (Some plan) seats = (seat seats (first_place plan.lookups.items)).row
 
--- with the atom at the plan's place no first partner sits in a row above this one
-abbrev pub NoneAboveBy : List Rule → Tables → Atom → Option Plan → ℕ → Type 0
-NoneAboveBy rules rows a None row = ⊤
-NoneAboveBy rules rows a (Some plan) row =
-    (r : Rule) → slice_get rules plan.rule ≡ Some r → FirstNoneAbove r rows plan.place a plan.lookups.items row
+-- with the atom at the plan's place no first partner sits in a row of a greater rank than this one
+abbrev pub NoneAboveBy : List Rule → Tables → Ranks → Atom → Option Plan → ℕ → Type 0
+NoneAboveBy rules rows rank a None row = ⊤
+NoneAboveBy rules rows rank a (Some plan) row =
+    (r : Rule) → slice_get rules plan.rule ≡ Some r → FirstNoneAbove r rows rank plan.place a plan.lookups.items row
 
 -- A search for partners of the atom may go on where it stands: the plans before have none, and by this plan no first
--- partner sits above this row.
-abbrev pub MayResume : List Rule → Tables → Atom → List Plan → Standing → Type 0
-MayResume rules rows a plans s =
+-- partner sits in a row of a greater rank.
+abbrev pub MayResume : List Rule → Tables → Ranks → Atom → List Plan → Standing → Type 0
+MayResume rules rows rank a plans s =
     ((k : ℕ) → k < s.plan → NoneBy rules rows a (slice_get plans k))
-    × NoneAboveBy rules rows a (slice_get plans s.plan) s.row
+    × NoneAboveBy rules rows rank a (slice_get plans s.plan) s.row

@@ -37,8 +37,8 @@ pub record IsSeated (r : Rule) (rows : Tables) (p : ℕ) (heads : List Atom) (se
 abbrev pub NoPartners : Rule → Tables → ℕ → Atom → Type 0
 NoPartners r rows p a = (heads : List Atom) (seats : List Seat) → IsSeated r rows p heads seats → ¬ (head heads p ≡ a)
 
--- in no instance with the atom at this place the head at the place q sits in a row above this one
-abbrev pub NoneAbove : Rule → Tables → ℕ → Atom → ℕ → ℕ → Type 0
-NoneAbove r rows p a q row =
+-- in no instance with the atom at this place the head at the place q sits in a row of a greater rank than this one
+abbrev pub NoneAbove : Rule → Tables → (ℕ → ℕ) → ℕ → Atom → ℕ → ℕ → Type 0
+NoneAbove r rows rank p a q row =
     (heads : List Atom) (seats : List Seat) → IsSeated r rows p heads seats → head heads p ≡ a
-    → ¬ (row < (seat seats q).row)
+    → ¬ (rank row < rank (seat seats q).row)

@@ -11,7 +11,7 @@ ghost use Rattle.chr_plans.specs.working.Searching.{IsAllowed, IsIndexed, IsMiss
 use crate::key::{Key, Limit, Source, Span, read_key, read_span};
 use crate::plan::Lookup;
 use crate::rows::Rows;
-use crate::search::newest_from;
+use crate::search::first_from;
 use arrayvec::ArrayVec;
 use chr_base::atom::Atom;
 use chr_base::limits::MAX_COMPARISONS;
@@ -96,6 +96,7 @@ fn finds_none<R: Rows>(
     ensures rows { R.rows rows.new ≡ R.rows rows.old }
     ensures columns { R.columns rows.new ≡ R.columns rows.old }
     ensures tables { R.tables rows.new ≡ R.tables rows.old }
+    ensures rank { R.rank rows.new ≡ R.rank rows.old }
     ensures none { OnTrue result ((other : ℕ) →
         HasKey (R.columns rows.old lookup.now.table lookup.now.index)
         (map (λ k. source_value heads.now k.source) lookup.now.partner.key.items)
@@ -109,7 +110,7 @@ fn finds_none<R: Rows>(
     push_known(&lookup.partner.limits, active, found, &mut known);
     let mut span = Span::default();
     read_span(heads, lookup.partner.order, &known, &mut span);
-    newest_from(rows, lookup, &key, &span, None).is_none()
+    first_from(rows, lookup, &key, &span, None).is_none()
 }
 
 /// Whether a look-up after the first ones, whose key is known from the active atom and their partners, finds no row by
@@ -128,6 +129,7 @@ pub(crate) fn is_hopeless<R: Rows>(
     ensures rows { R.rows rows.new ≡ R.rows rows.old }
     ensures columns { R.columns rows.new ≡ R.columns rows.old }
     ensures tables { R.tables rows.new ≡ R.tables rows.old }
+    ensures rank { R.rank rows.new ≡ R.rank rows.old }
     ensures missing { OnTrue result
         (IsMissing (R.rows rows.old) (R.columns rows.old) active lookups.now done heads.now) }
 {

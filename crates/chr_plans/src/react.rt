@@ -29,7 +29,7 @@ fn first_plan(from: Option<Standing>) -> usize
     }
 }
 
-/// The row at which the search by a plan begins, where that is not the newest.
+/// The row at whose rank the search by a plan begins, where that is not the greatest.
 fn row_in(from: Option<Standing>, plan: usize) -> Option<usize>
     ensures { IfSome result (λ row. from ≡ Some (record { plan = plan; row = row })) }
 {
@@ -78,16 +78,17 @@ pub fn react<R: Rows>(
 ) -> Option<usize>
     requires fits { (j : ℕ) → j < length plans.now →
         FitsPlan rules.now (R.rows rows.old) (R.columns rows.old) (slice_get plans.now j) }
-    requires passed { IfSome from (MayResume rules.now (R.rows rows.old) active.now plans.now) }
+    requires passed { IfSome from (MayResume rules.now (R.rows rows.old) (R.rank rows.old) active.now plans.now) }
     ensures rows { R.rows rows.new ≡ R.rows rows.old }
     ensures columns { R.columns rows.new ≡ R.columns rows.old }
     ensures tables { R.tables rows.new ≡ R.tables rows.old }
+    ensures rank { R.rank rows.new ≡ R.rank rows.old }
     ensures found { IfSome result (λ j.
         Reacts rules.now (R.rows rows.old) active.now (slice_get plans.now j) heads.new.items seats.new.items
         values.new.items) }
     ensures first { IfSome result (λ j. (k : ℕ) → k < j →
         NoneBy rules.now (R.rows rows.old) active.now (slice_get plans.now k)) }
-    ensures standing { IfSome result (λ j. MayResume rules.now (R.rows rows.old) active.now plans.now
+    ensures standing { IfSome result (λ j. MayResume rules.now (R.rows rows.old) (R.rank rows.old) active.now plans.now
         (record { plan = j; row = first_row (slice_get plans.now j) seats.new.items })) }
     ensures none { IfNone result ((k : ℕ) → k < length plans.now →
         NoneBy rules.now (R.rows rows.old) active.now (slice_get plans.now k)) }

@@ -1,5 +1,5 @@
 //! The search for the partners of an active atom.
-ghost use Rattle.std.specs.Prelude.{◌≡◌, ℕ, ◌<◌, ◌≤◌, ◌+◌, length, get_or, IfSome, IfNone, IsTrue, is_some};
+ghost use Rattle.std.specs.Prelude.{◌≡◌, ℕ, ◌<◌, ◌≤◌, length, get_or, IfSome, IfNone, IsTrue, is_some};
 ghost use Rattle.std.specs.Bool.{OnTrue, OnFalse};
 ghost use Rattle.chr_base.specs.Rules.{heads_at, heads_of, valued};
 ghost use Rattle.chr_plans.specs.Seats.{seat, head, no_seat, IsSeated, NoPartners};
@@ -33,10 +33,10 @@ fn is_taken(lookups: &[Lookup], seats: &[Seat], row: Seat) -> bool
     false
 }
 
-/// The newest row that a look-up meets, at or below `from` where that is a row. `inline(never)`: in both of its callers
-/// it would be no faster.
+/// The row of the greatest rank, up to that of `from` where that is a row, that a look-up meets.
+/// `inline(never)`: in both of its callers it would be no faster.
 #[inline(never)]
-pub(crate) fn newest_from<R: Rows>(
+pub(crate) fn first_from<R: Rows>(
     rows: &mut R,
     lookup: &Lookup,
     key: &[i64],
@@ -47,12 +47,19 @@ pub(crate) fn newest_from<R: Rows>(
     ensures rows { R.rows rows.new ≡ R.rows rows.old }
     ensures columns { R.columns rows.new ≡ R.columns rows.old }
     ensures tables { R.tables rows.new ≡ R.tables rows.old }
+    ensures rank { R.rank rows.new ≡ R.rank rows.old }
     ensures lives { IfSome result (λ row. IsTrue (is_some (R.rows rows.old lookup.now.table row))) }
-    ensures newest { IfSome result (λ row. (other : ℕ) → IfSome from (λ first. other ≤ first) →
+    ensures greatest { IfSome result (λ row. (other : ℕ) →
+        IfSome from (λ first. R.rank rows.old lookup.now.table lookup.now.index other ≤
+        R.rank rows.old lookup.now.table lookup.now.index first) →
         HasKey (R.columns rows.old lookup.now.table lookup.now.index) key.now
         (R.rows rows.old lookup.now.table other) →
-        LiesIn span.now (R.rows rows.old lookup.now.table other) → other ≤ row) }
-    ensures none { IfNone result ((other : ℕ) → IfSome from (λ first. other ≤ first) →
+        LiesIn span.now (R.rows rows.old lookup.now.table other) →
+        R.rank rows.old lookup.now.table lookup.now.index other ≤
+        R.rank rows.old lookup.now.table lookup.now.index row) }
+    ensures none { IfNone result ((other : ℕ) →
+        IfSome from (λ first. R.rank rows.old lookup.now.table lookup.now.index other ≤
+        R.rank rows.old lookup.now.table lookup.now.index first) →
         HasKey (R.columns rows.old lookup.now.table lookup.now.index) key.now
         (R.rows rows.old lookup.now.table other) →
         ¬ (LiesIn span.now (R.rows rows.old lookup.now.table other))) }
@@ -64,7 +71,7 @@ pub(crate) fn newest_from<R: Rows>(
 }
 
 /// Goes on to an instance from the active atom and the partners of the first `done` look-ups. The next look-up begins
-/// at the row `from`, where there is one: in no instance its partner sits in a row above.
+/// at the row `from`, where there is one: in no instance its partner sits in a row of a greater rank.
 fn complete<R: Rows>(
     rows: &mut R,
     rule: &Rule,
@@ -83,16 +90,17 @@ fn complete<R: Rows>(
     requires seats { length seats.old ≡ length (heads_of rule.now) }
     requires started { AreStarted (R.rows rows.old) (looked_in lookups.now) done heads.old seats.old }
     requires passed { IfSome from (λ row.
-        PastFrom rule.now (R.rows rows.old) active lookups.now done heads.old seats.old (row + 1)) }
+        PastFrom rule.now (R.rows rows.old) (R.rank rows.old) active lookups.now done heads.old seats.old row) }
     ensures rows { R.rows rows.new ≡ R.rows rows.old }
     ensures columns { R.columns rows.new ≡ R.columns rows.old }
     ensures tables { R.tables rows.new ≡ R.tables rows.old }
+    ensures rank { R.rank rows.new ≡ R.rank rows.old }
     ensures lengths { (length heads.new ≡ length heads.old) × (length seats.new ≡ length seats.old) }
     ensures same { AgreeAtKnown (looked_in lookups.now) active done heads.new seats.new heads.old seats.old }
     ensures found { OnTrue result (IsSeated rule.now (R.rows rows.old) active heads.new seats.new) }
     ensures values { OnTrue result (heads_at (valued values.new.items) rule.now ≡ heads.new) }
-    ensures passed { OnTrue result (PastFrom rule.now (R.rows rows.old) active lookups.now done heads.old seats.old
-        ((seat seats.new (get_or (looked_in lookups.now) done 0)).row + 1)) }
+    ensures passed { OnTrue result (PastFrom rule.now (R.rows rows.old) (R.rank rows.old) active lookups.now done
+        heads.old seats.old (seat seats.new (get_or (looked_in lookups.now) done 0)).row) }
     ensures none { OnFalse result
         (NoneFrom rule.now (R.rows rows.old) active (looked_in lookups.now) done heads.old seats.old) }
 {
@@ -112,13 +120,13 @@ fn complete<R: Rows>(
         &lookup.partner.limits,
         &mut span,
     );
-    let Some(newest) = newest_from(rows, lookup, &key, &span, from) else {
+    let Some(first) = first_from(rows, lookup, &key, &span, from) else {
         return false;
     };
     if is_hopeless(rows, active, lookups, done, heads) {
         return false;
     }
-    let mut next = Some(newest);
+    let mut next = Some(first);
     while let Some(row) = next {
         let seat = Seat {
             table: lookup.table,
@@ -183,8 +191,9 @@ fn start(
 /// those of the rule's variables; the seat at the active place says nothing. Where there is none, all three are left
 /// with anything.
 ///
-/// The search goes through the rows of the first partner from the newest down, or from the row `from`, where there is
-/// one. Where it finds an instance, it has passed the rows above that partner's, and may go on from there.
+/// The search goes through the rows of the first partner from the greatest rank down, or from that of the row `from`,
+/// where there is one. Where it finds an instance, it has passed the rows of greater ranks than that partner's, and may
+/// go on from there.
 pub fn find_partners<R: Rows>(
     rows: &mut R,
     rule: &Rule,
@@ -200,16 +209,17 @@ pub fn find_partners<R: Rows>(
     requires plan { IsPlan rule.now place (partners_of lookups.now) }
     requires fits { FitsTables rule.now lookups.now (R.rows rows.old) (R.columns rows.old) }
     requires passed { IfSome from (λ row.
-        FirstNoneAbove rule.now (R.rows rows.old) place active.now lookups.now row) }
+        FirstNoneAbove rule.now (R.rows rows.old) (R.rank rows.old) place active.now lookups.now row) }
     ensures rows { R.rows rows.new ≡ R.rows rows.old }
     ensures columns { R.columns rows.new ≡ R.columns rows.old }
     ensures tables { R.tables rows.new ≡ R.tables rows.old }
+    ensures rank { R.rank rows.new ≡ R.rank rows.old }
     ensures found { OnTrue result (IsSeated rule.now (R.rows rows.old) place heads.new.items seats.new.items) }
     ensures active { OnTrue result (head heads.new.items place ≡ active.now) }
     ensures seats { length seats.new.items ≡ length (heads_of rule.now) }
     ensures values { OnTrue result (heads_at (valued values.new.items) rule.now ≡ heads.new.items) }
-    ensures passed { OnTrue result (FirstNoneAbove rule.now (R.rows rows.old) place active.now lookups.now
-        (seat seats.new.items (first_place lookups.now)).row) }
+    ensures passed { OnTrue result (FirstNoneAbove rule.now (R.rows rows.old) (R.rank rows.old) place active.now
+        lookups.now (seat seats.new.items (first_place lookups.now)).row) }
     ensures none { OnFalse result (NoPartners rule.now (R.rows rows.old) place active.now) }
 {
     start(rule, place, active, heads, seats);

@@ -25,7 +25,7 @@ pub fn changes_between(alloc: Global, earlier: &Bag, later: &Bag) -> Result<Chan
     Ok(Changes { came, went })
 }
 
-/// What stands in a store more often than in another, each atom as often as it does so. Each store is walked once.
+/// The atoms of a store that another has fewer times, each as often as it stands there more. Each store is walked once.
 #[tactic(auto, using(crate::proofs::Surplus::surplus_is))]
 pub fn difference(alloc: Global, store: &Bag, other: &Bag) -> Result<Bag, AllocError>
     ensures { IfOk result (λ more. more ≡ store.now ⊖ other.now) }

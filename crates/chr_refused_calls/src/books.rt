@@ -19,30 +19,42 @@ pub enum BookCall {
 /// The seat that calls.
 const SEAT: u32 = 1;
 
-/// The text of the program, and what the book was told before the call.
-fn told(alloc: Global, made: BookCall) -> Option<(&'static str, Op)> {
+/// The text of the program.
+fn text_of(made: BookCall) -> &'static str {
     match made {
-        BookCall::Tell => Some((MINIMUM, minima(alloc, 1, 1, &[5, 3, 9])?)),
-        BookCall::Settle => Some((EIGHT, op_of(alloc, EIGHT, 1, "a, a, a, b, a")?)),
+        BookCall::Tell => MINIMUM,
+        BookCall::Settle => EIGHT,
+    }
+}
+
+/// What the book is told before the call.
+fn told(alloc: Global, made: BookCall) -> Option<Op> {
+    match made {
+        BookCall::Tell => minima(alloc, 1, 1, &[5, 3, 9]),
+        BookCall::Settle => op_of(alloc, EIGHT, 1, "a, a, a, b, a"),
     }
 }
 
 /// A book on which the call can be made.
 fn opened(rt: &(impl Threads + Sync), alloc: Global, made: BookCall) -> Option<Book> {
-    let (text, op) = told(alloc, made)?;
-    let mut book = Book::open(alloc, accepted_of(rt, alloc, text)?).ok()?;
-    book.call(alloc, SEAT, Act::Tell(op)).ok()?;
+    let accepted = accepted_of(rt, alloc, text_of(made))?;
+    let mut book = Book::open(alloc, accepted).ok()?;
+    book.call(alloc, SEAT, Act::Tell(told(alloc, made)?)).ok()?;
     Some(book)
 }
 
-/// Prints the number of steps in the reply of the last call, where there is one.
-fn print_steps(rt: &impl Print, book: &Book) {
+/// Prints the number of steps that a reply tells, if it does.
+fn print_steps(rt: &impl Print, reply: &Reply) {
+    match reply {
+        Reply::Settled(steps) => count(rt, "settled", *steps),
+        Reply::Stopped(steps) => count(rt, "stopped", *steps),
+        _ => {}
+    }
+}
+
+fn print_last_steps(rt: &impl Print, book: &Book) {
     if let Some(entry) = book.entry(book.entries()) {
-        match &entry.reply {
-            Reply::Settled(steps) => count(rt, "settled", *steps),
-            Reply::Stopped(steps) => count(rt, "stopped", *steps),
-            _ => {}
-        }
+        print_steps(rt, &entry.reply);
     }
 }
 
@@ -63,7 +75,7 @@ fn ask(rt: &impl Print, alloc: Global, book: &mut Book, act: Act) {
     match book.call(alloc, SEAT, act) {
         Ok(_) => {
             answer(rt, None);
-            print_steps(rt, book);
+            print_last_steps(rt, book);
         }
         Err(fault) => {
             answer(rt, Some(Refusal::Memory));

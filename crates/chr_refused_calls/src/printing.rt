@@ -21,26 +21,24 @@ pub fn count(rt: &impl Print, what: &str, number: u64) {
     let _ = println!(rt; "{what} {number}");
 }
 
-/// Adds an atom that is there `equal` times: after this number, where it is more than 1.
-fn push_atom(
-    alloc: Global,
-    text: &mut String,
-    program: &Program,
-    atom: &Atom,
-    equal: u64,
-) -> Option<()> {
-    if !text.is_empty() {
-        text.push_str(", ").ok()?;
-    }
+/// Adds how often an atom is there: nothing where it is there once.
+fn push_times(text: &mut String, equal: u64) {
     if equal > 1 {
-        write!(text, "{equal} times ").ok()?;
+        let _ = write!(text, "{equal} times ");
     }
-    let atom = atoms_text(alloc, program, &[atom.copy()]).ok()?;
-    text.push_str(&atom).ok()
+}
+
+/// Adds an atom that is there `equal` times: after this number, where it is more than 1.
+fn push_atom(alloc: Global, text: &mut String, program: &Program, atom: &Atom, equal: u64) {
+    let _ = text.push_str(if text.is_empty() { "" } else { ", " });
+    push_times(text, equal);
+    if let Ok(atom) = atoms_text(alloc, program, &[atom.copy()]) {
+        let _ = text.push_str(&atom);
+    }
 }
 
 /// The text of a store. Of equal atoms one stands there, after their number.
-fn text_of(alloc: Global, program: &Program, bag: &Bag) -> Option<String> {
+fn text_of(alloc: Global, program: &Program, bag: &Bag) -> String {
     let mut text = String::new(alloc);
     let mut equal: u64 = 1;
     let mut later = bag.atoms().iter();
@@ -49,24 +47,22 @@ fn text_of(alloc: Global, program: &Program, bag: &Bag) -> Option<String> {
         if later.next() == Some(atom) {
             equal = equal.saturating_add(1);
         } else {
-            push_atom(alloc, &mut text, program, atom, equal)?;
+            push_atom(alloc, &mut text, program, atom, equal);
             equal = 1;
         }
     }
-    Some(text)
+    text
 }
 
 /// Prints a store, after what it is.
 pub fn print_bag(rt: &impl Print, alloc: Global, program: &Program, what: &str, bag: &Bag) {
-    if let Some(text) = text_of(alloc, program, bag) {
-        let _ = println!(rt; "{what}: {text}");
-    }
+    let text = text_of(alloc, program, bag);
+    let _ = println!(rt; "{what}: {text}");
 }
 
 pub fn print_lease(rt: &impl Print, alloc: Global, program: &Program, lease: &Lease) {
-    if let Some(text) = text_of(alloc, program, &lease.part) {
-        let _ = println!(rt; "lease {}: {text}", lease.number);
-    }
+    let text = text_of(alloc, program, &lease.part);
+    let _ = println!(rt; "lease {}: {text}", lease.number);
 }
 
 /// Prints what came of a lease.

@@ -4,8 +4,9 @@ ghost use Rattle.std.specs.Prelude.{◌≡◌};
 use crate::pools::EIGHT;
 use crate::printing::{answer, call, count, print_bag, print_operation};
 use crate::texts::{accepted_of, op_of};
-use chr_acts::{Book, Reply};
+use chr_acts::{Book, CallFault, Reply};
 use chr_base::program::Program;
+use chr_ops::Op;
 use chr_shared::{Naming, Opening, Receipt, Seat, Settled, Shared};
 use chr_workers::OpenGate;
 use std::alloc::Global;
@@ -20,6 +21,23 @@ const PARTS: u32 = 3;
 /// What the seat tells. At rest there are eight atoms for each `a`: one that is lost, or comes twice, is seen.
 const TOLD: [&str; 3] = ["a, b", "a, a, a", "a, b, a"];
 
+/// The receipt of a call, where memory was not refused to it.
+fn receipt_of(answered: Result<Receipt, CallFault>) -> Option<Receipt> {
+    answered.ok()
+}
+
+fn tell_one<J: Naming>(
+    rt: &(impl Print + Wait),
+    alloc: Global,
+    program: &Program,
+    shared: &Shared<J>,
+    seat: &mut Seat<J>,
+    op: Op,
+) {
+    print_operation(rt, alloc, program, &op);
+    receipt_of(shared.tell(rt, alloc, seat, op));
+}
+
 fn tell<J: Naming>(
     rt: &(impl Print + Wait),
     alloc: Global,
@@ -31,8 +49,7 @@ fn tell<J: Naming>(
     for atoms in TOLD {
         number = number.wrapping_add(1);
         if let Some(op) = op_of(alloc, EIGHT, number, atoms) {
-            print_operation(rt, alloc, program, &op);
-            let _ = shared.tell(rt, alloc, seat, op);
+            tell_one(rt, alloc, program, shared, seat, op);
         }
     }
 }
@@ -61,6 +78,14 @@ fn rest<J: Naming>(
     }
 }
 
+/// The number that a receipt tells.
+fn number_in(receipt: &Receipt) -> Option<u64> {
+    match &receipt.reply {
+        Reply::LeastLease(number) => *number,
+        _ => None,
+    }
+}
+
 /// The least lease number that is out.
 fn least_lease<J: Naming>(
     rt: &impl Wait,
@@ -68,12 +93,9 @@ fn least_lease<J: Naming>(
     shared: &Shared<J>,
     seat: &mut Seat<J>,
 ) -> Option<u64> {
-    let Ok(receipt) = shared.least_lease(rt, alloc, seat) else {
-        return None;
-    };
-    match &receipt.reply {
-        Reply::LeastLease(number) => *number,
-        _ => None,
+    match receipt_of(shared.least_lease(rt, alloc, seat)) {
+        Some(receipt) => number_in(&receipt),
+        None => None,
     }
 }
 
@@ -87,7 +109,7 @@ fn recall<J: Naming>(
     for _ in 0..PARTS {
         if let Some(number) = least_lease(rt, alloc, shared, seat) {
             count(rt, "lease", number);
-            let _ = shared.recall(rt, alloc, seat, number);
+            receipt_of(shared.recall(rt, alloc, seat, number));
         }
     }
 }
@@ -99,8 +121,8 @@ fn show<J: Naming>(
     shared: &Shared<J>,
     seat: &mut Seat<J>,
 ) {
-    let _ = shared.settle(rt, alloc, seat);
-    if let Ok(receipt) = shared.show(rt, alloc, seat) {
+    receipt_of(shared.settle(rt, alloc, seat));
+    if let Some(receipt) = receipt_of(shared.show(rt, alloc, seat)) {
         print_shown(rt, alloc, program, "shown", &receipt);
     }
 }

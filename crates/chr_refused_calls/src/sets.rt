@@ -35,18 +35,13 @@ pub fn operations(alloc: Global, rows: &[Minima]) -> Vec<Op> {
     ops
 }
 
-/// Adds an operation to the set, where there is one.
-fn grow(set: &mut OpSet, op: Option<Op>) {
-    if let Some(op) = op {
-        let _ = set.add(op);
-    }
-}
+/// Operations that the set holds before others join it.
+const HELD: [Minima; 2] = [(1, 1, &[5, 3]), (2, 7, &[9])];
 
 /// Adds what the set holds before the call: nothing where one operation is added, so that there is no room for it.
 fn prepare(alloc: Global, set: &mut OpSet, made: SetCall) {
     if let SetCall::Join = made {
-        grow(set, minima(alloc, 1, 1, &[5, 3]));
-        grow(set, minima(alloc, 2, 7, &[9]));
+        let _ = set.join(alloc, &operations(alloc, &HELD));
     }
 }
 

@@ -1,5 +1,10 @@
 //! Replicas of programs that are given as texts. Where memory runs out a test ends.
 mod books;
-mod limits;
+mod gates;
+mod model;
+mod random;
+mod said;
+mod seats;
 mod texts;
 mod workers;
+mod worlds;

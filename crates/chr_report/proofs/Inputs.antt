@@ -1,15 +1,14 @@
 -- What is written for an input of which a beginning was read.
 use Rattle.std.proofs.Common.{◌≡◌, ℕ, ◌+◌, ◌-◌, ◌<◌, ◌≤◌, ◌⊎◌, Bool, true, false, List, [], ◌∷◌, ◌++◌, length, take}
 use Rattle.std.proofs.Common.{refl, sym, ap, ◌∙◌, append_assoc, append-nil, length-append, subst, inl, inr, arith}
-use Rattle.std.specs.Prelude.{Option, Some, None, IfSome, Result, Ok, Err, codes, nat_eq, if◌then◌else◌, ⊤}
+use Rattle.std.specs.Prelude.{Option, Some, None, IfSome, Result, Ok, Err, codes, nat_eq, if◌then◌else◌}
 use Rattle.std.specs.List.{ends_with, onto_first}
 use Rattle.std.proofs.lemmas.Bool.Decides.{Decides-eqb}
 use Rattle.std.proofs.lemmas.List.{length-take-le}
 use Rattle.std.proofs.lemmas.Slice.Eq.{slice_eq-Decides}
-use Rattle.std.specs.Io.KnownBytes.{Appends, Consumes, IsAtEnd}
-use Rattle.std.proofs.KnownBytes.{Appends-nil, Consumes-trans}
+use Rattle.std.specs.Io.KnownBytes.{Appends, Consumes}
+use Rattle.std.proofs.KnownBytes.{Consumes-trans}
 use Rattle.chr_base.specs.declared.program.Program.{Program}
-use Rattle.chr_device.specs.Devices.{AppendsPart}
 use Rattle.chr_device.specs.declared.words.Verb.{Verb}
 use Rattle.chr_device.specs.declared.words.Verb.TheVariants.{Run}
 use Rattle.chr_read.specs.declared.fault.ReadFault.{ReadFault}
@@ -18,22 +17,16 @@ use Rattle.chr_read.specs.declared.reader.TheConstants.{MAX_TEXT}
 use Rattle.chr_read.specs.ProgramTexts.{IsAnswer}
 use Rattle.chr_report.specs.declared.wanted.Wanted.{Wanted}
 use Rattle.chr_report.specs.declared.running.Status.{Status}
-use Rattle.chr_report.specs.declared.running.Status.TheVariants.{Accepted, Refused}
+use Rattle.chr_report.specs.declared.running.Status.TheVariants.{Refused}
 use Rattle.chr_answers.specs.Lines.{lines, without_return}
 use Rattle.chr_report.specs.Inputs.{is_divider, text_of}
 use Rattle.chr_report.specs.Outputs.{IsOutput, IsReadOutput}
 use Rattle.chr_report.specs.Served.{AllAnswered, has_divider}
 use Rattle.chr_answers.specs.Lines.{HasNoFeed}
-use Rattle.chr_report.specs.Written.{Writes, WritesOutput, WritesBeginning}
+use Rattle.chr_report.specs.Written.{Writes}
 use Rattle.chr_report.specs.working.Divided.{AreText, Divides, IsDivided, IsUndivided}
-use Rattle.chr_report.specs.working.Serving.{AnswersCommands, WritesText, WritesTextPart}
-use Rattle.chr_report.proofs.Conversing.{some_left}
-use Rattle.chr_answers.proofs.Feeds.{whole_both}
+use Rattle.chr_report.specs.working.Serving.{WritesText}
 use Rattle.chr_answers.proofs.LineLaws.{some_line}
-
--- where nothing is written, a writer holds what it held
-pub unwritten : (old new : Option (List ℕ)) → new ≡ old → Appends old new []
-unwritten old new e = subst (λ n. Appends old n []) (sym e) (Appends-nil old)
 
 -- ---- after the divider
 
@@ -67,40 +60,6 @@ divided_written from to bytes text first wanted status IsWritten c d w = record 
   is_written = w.is_written;
 }
 
-pub divided_part : (from to : Option (List ℕ)) (bytes text first : List ℕ) (wanted : Wanted) (old new : Option (List ℕ))
-    → Consumes from to bytes → IsDivided bytes text first
-    → WritesTextPart (IsAnswer text) first to wanted old new → WritesBeginning from old new Run wanted
-divided_part from to bytes text first wanted old new c d (inl w) = inl w
-divided_part from to bytes text first wanted old new c d (inr (status, w)) =
-    inr (status, divided_written from to bytes text first wanted status (AppendsPart old new) c d w)
-
-pub divided_answered : (from to next : Option (List ℕ)) (bytes text first : List ℕ) (wanted : Wanted)
-    (answer : Result Program ReadFault) (old new : Option (List ℕ)) → Consumes from to bytes
-    → IsDivided bytes text first
-    → IsAnswer text answer → AnswersCommands answer wanted first to next old new → AllAnswered from next old new wanted
-divided_answered from to next bytes text first wanted answer old new c d a s =
-    let front = d.front ++ s.front in
-    let all : bytes ++ s.bytes ≡ front ++ s.line = ap (λ b. b ++ s.bytes) d.are ∙ append_assoc d.front first s.bytes
-    ∙ ap (λ b. d.front ++ b) s.are ∙ sym (append_assoc d.front s.front s.line) in
-    let wrote : WritesOutput (Some front) old new Run wanted Accepted =
-    record {
-      input = front;
-      is_read = refl;
-      out = s.out;
-      is_output =
-          output_divided text d.front s.front s.out wanted answer Accepted d.divides a s.output;
-      is_written =
-          s.written;
-    } in
-    record {
-      front = front;
-      line = s.line;
-      read = subst (Consumes from next) all (Consumes-trans from to next bytes s.bytes c s.read);
-      whole = whole_both d.front s.front d.divides.whole s.whole;
-      unended = s.unended;
-      written = rw (d.divides.divider s.front) (Accepted, wrote);
-    }
-
 -- ---- before the divider
 
 no_divider : (front : List ℕ) → AreText front → has_divider front ≡ false
@@ -116,34 +75,6 @@ undivided_answered from to bytes wanted old new c u w = record {
   unended = u.unended;
   written = rw (no_divider u.front u.begins) w;
 }
-
--- ---- the end of the input
-
-all_there : (from to : Option (List ℕ)) (bytes input : List ℕ) → Consumes from to bytes → IsAtEnd to → input ≡ bytes
-    → IfSome from (λ all. input ≡ all)
-all_there None to bytes input c e i = tt
-all_there (Some x) None bytes input c e i = absurd c
-all_there (Some x) (Some y) bytes input c e i = i ∙ sym (c ∙ ap (λ l. bytes ++ l) e ∙ append-nil bytes)
-
-pub ended_written : (from to : Option (List ℕ)) (bytes : List ℕ) (wanted : Wanted) (status : Status)
-    (IsWritten : List ℕ → Type 0) → Consumes from to bytes → IsAtEnd to
-    → Writes (Some bytes) Run wanted status IsWritten → Writes from Run wanted status IsWritten
-ended_written from to bytes wanted status IsWritten c e w =
-    record {
-      input = w.input;
-      is_read = all_there from to bytes w.input c e w.is_read;
-      out = w.out;
-      is_output =
-          w.is_output;
-      is_written = w.is_written;
-    }
-
-pub ended_part : (from to : Option (List ℕ)) (bytes : List ℕ) (wanted : Wanted) (old new : Option (List ℕ))
-    → Consumes from to bytes → IsAtEnd to → WritesBeginning (Some bytes) old new Run wanted
-    → WritesBeginning from old new Run wanted
-ended_part from to bytes wanted old new c e (inl w) = inl w
-ended_part from to bytes wanted old new c e (inr (status, w)) =
-    inr (status, ended_written from to bytes wanted status (AppendsPart old new) c e w)
 
 -- ---- a text that is too long
 
@@ -202,58 +133,13 @@ too_long_output verb short long out wanted status s l (Err (fault.Bad n k), a, h
     absurd (omega (arith, s, fits))
 too_long_output verb short long out wanted status s l (Err fault.Memory, a, h) = absurd h.1
 
-pub long_written : (from to : Option (List ℕ)) (bytes : List ℕ) (wanted : Wanted) (status : Status)
-    (IsWritten : List ℕ → Type 0) → Consumes from to bytes → IsUndivided bytes → MAX_TEXT + 4 < length bytes
-    → Writes (Some bytes) Run wanted status IsWritten → Writes from Run wanted status IsWritten
-long_written from to bytes wanted status IsWritten c u l w =
-    let left = some_left from to bytes c in
-    let here : MAX_TEXT < length (text_of (lines w.input)) =
-    subst (λ b. MAX_TEXT < length (text_of (lines b))) (append-nil bytes ∙ sym w.is_read)
-    (text_too_long bytes [] u l) in
-    record {
-      input = bytes ++ left.0;
-      is_read = left.1;
-      out = w.out;
-      is_output =
-          too_long_output Run w.input (bytes ++ left.0) w.out wanted status here
-          (text_too_long bytes left.0 u l) w.is_output;
-      is_written = w.is_written;
-    }
-
-pub long_part : (from to : Option (List ℕ)) (bytes : List ℕ) (wanted : Wanted) (old new : Option (List ℕ))
-    → Consumes from to bytes → IsUndivided bytes → MAX_TEXT + 4 < length bytes
-    → WritesBeginning (Some bytes) old new Run wanted → WritesBeginning from old new Run wanted
-long_part from to bytes wanted old new c u l (inl w) = inl w
-long_part from to bytes wanted old new c u l (inr (status, w)) =
-    inr (status, long_written from to bytes wanted status (AppendsPart old new) c u l w)
-
-abbrev IsRefusal : Status → Type 0
-IsRefusal Accepted = ⊥
-IsRefusal Refused = ⊤
-
-pub not_accepted : {P : Type 0} (s : Status) → s ≡ Refused → s ≡ Accepted → P
-not_accepted s e f = absurd (subst IsRefusal (sym e ∙ f) tt)
-
 -- a program whose text is too long is refused
-too_long_refused : (input out : List ℕ) (wanted : Wanted) (status : Status) → MAX_TEXT < length (text_of (lines input))
-    → IsOutput Run wanted input status out → status ≡ Refused
-too_long_refused input out wanted status l (Ok p, a, h) = let fits = a.0 in absurd (omega (arith, l, fits))
-too_long_refused input out wanted status l (Err e, a, h) = h.0
-
-pub long_refused : (bytes : List ℕ) (wanted : Wanted) (status : Status) (IsWritten : List ℕ → Type 0)
-    → IsUndivided bytes → MAX_TEXT + 4 < length bytes → Writes (Some bytes) Run wanted status IsWritten → status
-    ≡ Refused
-long_refused bytes wanted status IsWritten u l w =
-    too_long_refused w.input w.out wanted status (subst (λ b. MAX_TEXT < length (text_of (lines b)))
-    (append-nil bytes ∙ sym w.is_read) (text_too_long bytes [] u l)) w.is_output
+pub too_long_refused : (verb : Verb) (input out : List ℕ) (wanted : Wanted) (status : Status)
+    → MAX_TEXT < length (text_of (lines input)) → IsOutput verb wanted input status out → status ≡ Refused
+too_long_refused verb input out wanted status l (Ok p, a, h) = let fits = a.0 in absurd (omega (arith, l, fits))
+too_long_refused verb input out wanted status l (Err e, a, h) = h.0
 
 -- ---- reads
-
--- a read that gave nothing leaves the bytes that were read
-pub read_nothing : (from to next : Option (List ℕ)) (bytes buf : List ℕ) (n : ℕ) → n ≡ 0 → Consumes from to bytes
-    → Consumes to next (take n buf) → Consumes from next bytes
-read_nothing from to next bytes buf n e c d = subst (Consumes from next) (append-nil bytes)
-    (Consumes-trans from to next bytes [] c (subst (λ m. Consumes to next (take m buf)) e d))
 
 -- bytes that are read after others are kept with these
 pub read_more : (from to next : Option (List ℕ)) (bytes more all : List ℕ) → all ≡ bytes ++ more

@@ -12,3 +12,6 @@ pub mod Gathers
 pub mod UnnamedVerdicts
 pub mod OneOutput
 pub mod OutputThere
+mod Comes
+mod Turns
+mod Due

@@ -28,7 +28,7 @@ pub(crate) fn next_line(bytes: &[u8]) -> (&[u8], Option<&[u8]>)
 }
 
 /// Whether a line ends the program text.
-fn is_divider(line: &[u8]) -> bool
+pub(crate) fn is_divider(line: &[u8]) -> bool
     ensures { result ≡ is_divider line.now }
 {
     without_return(line) == b"---".as_slice()

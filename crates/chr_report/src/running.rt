@@ -1,5 +1,6 @@
 //! Checks and runs, from the bytes of an input to the bytes of its output.
-ghost use Rattle.std.specs.Prelude.{◌≡◌, ◌≤◌, ◌⊎◌, [], Ok, Some, false, true, IfOk, IfSome, IsErrOf, OnErr, OnOk};
+ghost use Rattle.std.specs.Prelude.{◌≡◌, ◌≤◌, ◌⊎◌, [], Ok, Some, false, true, IfOk, IfSome, IsErrOf, IsTrue, OnErr};
+ghost use Rattle.std.specs.Prelude.{OnOk};
 ghost use Rattle.std.specs.Prelude.{string_bytes};
 ghost use Rattle.std.specs.Bool.{OnTrue};
 ghost use Rattle.std.specs.Io.KnownBytes.{Appends, IsAtEnd};
@@ -21,18 +22,21 @@ ghost use Rattle.chr_join.specs.AcceptedPrograms.{program_in};
 ghost use Rattle.chr_answers.specs.Answered.{AnswersRest};
 ghost use Rattle.chr_report.specs.working.LinesLeft.{lines_left};
 ghost use Rattle.chr_answers.specs.Services.{held, served, IsBetweenLines};
+ghost use Rattle.std.specs.Thread.{IsSync};
+ghost use Rattle.chr_report.specs.working.Coming.{IsReadyAt, Takes};
 ghost use Rattle.chr_report.specs.working.Serving.{IsOpened, WritesText};
 
 use crate::blocks::answer_input;
+use crate::coming::Coming;
 use crate::input::{MOST_TEXT, asked, divided, split};
 use crate::judging::{Judged, judge};
-use crate::keeping::read_input;
-use crate::sharing::sharing_by;
+use crate::turning::{Asked, Turn, take_turn};
 use crate::verdict::accepted_line;
 use crate::wanted::Wanted;
 use chr_answers::{Ahead, Answering, Service, Sharing, answer_all};
 use chr_device::{RunFault, Settings, Verb, Watched, read_on, read_past, write_whole};
 use chr_join::Accepted;
+use chr_run::answer_at_end;
 use std::alloc::{AllocError, Global};
 use std::io::{Read, Write};
 use std::random::RandomSource;
@@ -253,30 +257,72 @@ fn output_of_run<D: Read>(
     Ok(output_of(rt, alloc, Verb::Run, wanted, sharing, &kept)?)
 }
 
-/// The output of an input, which is read to its end.
-fn output_of_input<D: Read>(
+/// Runs by several workers: some read command lines before their turn.
+fn run_by_workers<R: Read, W: Write>(
     rt: &(impl RandomSource + Threads + Wait + Sync),
     alloc: Global,
-    reader: &mut Watched<D>,
-    verb: Verb,
+    reader: &mut Watched<R>,
+    writer: &mut Watched<W>,
     wanted: Wanted,
     sharing: Sharing,
-) -> Result<Output, RunFault>
-    requires { (1 ≤ wanted.replicas) × (wanted.replicas ≤ MAX_REPLICAS) }
-    ensures ok { IfOk result (λ o. Writes (D.remaining (inner_of reader.old)) verb wanted o.status
-        (Appends (Some []) (Some (string_bytes o.text)))) }
-    ensures end { OnOk result (IsAtEnd (D.remaining (inner_of reader.new))) }
-    ensures whole { OnOk result (has_failed reader.new ≡ has_failed reader.old) }
-    ensures device { IsErrOf result Device → has_failed reader.new ≡ true }
-    ensures memory { IsErrOf result Memory → has_failed reader.new ≡ has_failed reader.old }
+) -> Result<Status, RunFault>
+    requires reads { has_failed reader.old ≡ false }
+    requires writes { has_failed writer.old ≡ false }
+    requires replicas { (1 ≤ wanted.replicas) × (wanted.replicas ≤ MAX_REPLICAS) }
+    ensures ok { IfOk result (λ status. WritesOutput (R.remaining (inner_of reader.old))
+        (W.contents (inner_of writer.old)) (W.contents (inner_of writer.new)) Run wanted status) }
+    ensures err { OnErr result (WritesBeginning (R.remaining (inner_of reader.old))
+        (W.contents (inner_of writer.old)) (W.contents (inner_of writer.new)) Run wanted) }
+    ensures end { OnOk result (IsAtEnd (R.remaining (inner_of reader.new))) }
+    ensures whole { OnOk result ((has_failed reader.new ≡ false) × (has_failed writer.new ≡ false)) }
+    ensures device { IsErrOf result Device → (has_failed reader.new ≡ true) ⊎ (has_failed writer.new ≡ true) }
+    ensures memory { IsErrOf result Memory → (has_failed reader.new ≡ false) × (has_failed writer.new ≡ false) }
+    ensures unread { has_failed reader.new ≡ true → writer.new ≡ writer.old }
+    ensures unanswered { IsErrOf result Memory → writer.new ≡ writer.old }
 {
-    match verb {
-        Verb::Run => output_of_run(rt, alloc, reader, wanted, sharing),
-        Verb::Check | Verb::Explain | Verb::Serve => {
-            let input = read_input(rt, alloc, reader)?;
-            Ok(output_of(rt, alloc, verb, wanted, sharing, &input)?)
-        }
-    }
+    let output = output_of_run(rt, alloc, reader, wanted, sharing)?;
+    write_whole(writer, output.text.as_bytes())?;
+    Ok(output.status)
+}
+
+/// Checks, or runs by one worker.
+fn run_asked<X: RandomSource + Threads + Wait + Sync, R: Read, W: Write>(
+    rt: &X,
+    alloc: Global,
+    reader: &mut Watched<R>,
+    writer: &mut Watched<W>,
+    asked: Asked,
+) -> Result<Status, RunFault>
+    requires reads { has_failed reader.old ≡ false }
+    requires writes { has_failed writer.old ≡ false }
+    requires replicas { (1 ≤ asked.wanted.replicas) × (asked.wanted.replicas ≤ MAX_REPLICAS) }
+    ensures ok { IfOk result (λ status. WritesOutput (R.remaining (inner_of reader.old))
+        (W.contents (inner_of writer.old)) (W.contents (inner_of writer.new)) asked.verb asked.wanted status) }
+    ensures err { OnErr result (WritesBeginning (R.remaining (inner_of reader.old))
+        (W.contents (inner_of writer.old)) (W.contents (inner_of writer.new)) asked.verb asked.wanted) }
+    ensures end { OnOk result (IsAtEnd (R.remaining (inner_of reader.new))) }
+    ensures whole { OnOk result ((has_failed reader.new ≡ false) × (has_failed writer.new ≡ false)) }
+    ensures device { IsErrOf result Device → (has_failed reader.new ≡ true) ⊎ (has_failed writer.new ≡ true) }
+    ensures memory { IsErrOf result Memory → (has_failed reader.new ≡ false) × (has_failed writer.new ≡ false) }
+    ensures unread { has_failed reader.new ≡ true → writer.new ≡ writer.old }
+    ensures unanswered { IsErrOf result Memory → writer.new ≡ writer.old }
+{
+    let take = |line: Turn| -> Result<Turn, AllocError>
+        requires threads { IsSync X.row }
+        requires replicas { (1 ≤ asked.wanted.replicas) × (asked.wanted.replicas ≤ MAX_REPLICAS) }
+        requires ready { IsReadyAt line.stage }
+        ensures { IfOk result (Takes asked line) }
+    { take_turn(rt, alloc, asked, line) };
+    let mut coming = Coming::new(alloc, asked, take);
+    answer_at_end(rt, alloc, &mut coming, reader, writer)?;
+    Ok(coming.end())
+}
+
+/// Whether several workers run: nothing else is shared out among them while it is read.
+fn is_shared(asked: Asked) -> bool
+    ensures { IsTrue result → asked.verb ≡ Run }
+{
+    asked.verb == Verb::Run && asked.sharing.workers > 1
 }
 
 /// Reads all of the input, and then writes its output: the verdict on the program text, and by `Verb::Run` for an
@@ -314,14 +360,9 @@ pub fn run<R: Read, W: Write>(
     ensures unread { has_failed reader.new ≡ true → writer.new ≡ writer.old }
     ensures unanswered { IsErrOf result Memory → writer.new ≡ writer.old }
 {
-    let output = output_of_input(
-        rt,
-        alloc,
-        reader,
-        settings.command,
-        Wanted::from_settings(settings),
-        sharing_by(settings),
-    )?;
-    write_whole(writer, output.text.as_bytes())?;
-    Ok(output.status)
+    let asked = Asked::from_settings(settings);
+    if is_shared(asked) {
+        return run_by_workers(rt, alloc, reader, writer, asked.wanted, asked.sharing);
+    }
+    run_asked(rt, alloc, reader, writer, asked)
 }

@@ -4,7 +4,7 @@ use Rattle.chr_base.specs.declared.atom.Atom.{Atom}
 use Rattle.chr_plans.specs.declared.key.Band.{Band}
 use Rattle.chr_plans.specs.declared.key.Span.{Span}
 use Rattle.chr_plans.specs.Keys.{IsInBand}
-use Rattle.chr_plans.specs.Rows.{Tables, Columns}
+use Rattle.chr_plans.specs.Rows.{Tables, Columns, Ranks}
 
 -- the atom of each row, or None where the row is dead; of each index its columns, and the columns of its order
 pub record Contents : Type 0 where
@@ -23,6 +23,10 @@ rows_of tables table row = get_or (get_or tables table no_table).rows row None
 -- the columns of an index of a table, where there is such an index
 abbrev pub index_columns : List Contents → Columns
 index_columns tables table index = slice_get (get_or tables table no_table).keys index
+
+-- the ranks of rows: each index goes from the newest row down, so the rank of a row is its number
+abbrev pub ranks_of : List Contents → Ranks
+ranks_of tables table index row = row
 
 -- the row lives, and this is its atom's argument in a column
 abbrev pub HasArgument : ℕ → ℤ → Option Atom → Type 0

@@ -12,13 +12,15 @@ pub struct Tables {
 
 impl Rows for Tables {
     ghost use Rattle.std.specs.Prelude.{length};
-    ghost use Rattle.chr_tables.specs.Contents.{rows_of, index_columns};
+    ghost use Rattle.chr_tables.specs.Contents.{rows_of, index_columns, ranks_of};
 
     ghost rows = { λ s. rows_of s.tables.items };
 
     ghost columns = { λ s. index_columns s.tables.items };
 
     ghost tables = { λ s. length s.tables.items };
+
+    ghost rank = { λ s. ranks_of s.tables.items };
 
     fn first(&mut self, table: usize, index: usize, key: &[i64], span: &Span) -> Option<usize> {
         self.tables[table].first(index, key, span)

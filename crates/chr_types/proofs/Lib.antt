@@ -10,6 +10,7 @@ pub mod Theorem
 pub mod OneList
 pub mod TooMany
 pub mod ConstantLists
+pub mod BesideFirst
 pub mod Ways
 pub mod Steps
 pub mod Members

@@ -1,7 +1,7 @@
 -- Members of lists, by their places and of joined lists.
-use Rattle.std.specs.Prelude.{◌≡◌, ℕ, zero, suc, ◌<◌, List, [], ◌∷◌, ◌++◌, ◌⊎◌, length, get_or}
-use Rattle.std.proofs.Common.{refl, subst, arith, inl, inr}
-use Rattle.std.specs.List.{flat_map}
+use Rattle.std.specs.Prelude.{◌≡◌, ℕ, zero, suc, ◌<◌, List, [], ◌∷◌, ◌++◌, ◌⊎◌, length, get_or, map}
+use Rattle.std.proofs.Common.{refl, ap, subst, arith, inl, inr}
+use Rattle.std.specs.List.{flat_map, zip}
 use Rattle.chr_types.specs.OrderTypes.{In}
 
 pub in_at : {A : Type 0} (xs : List A) (i : ℕ) (d : A) → i < length xs → In (get_or xs i d) xs
@@ -42,3 +42,14 @@ pub flat_map_in : {A B : Type 0} (r : A) (f : B → List A) (v : B) (ks : List B
 flat_map_in r f v [] i j = elim i [ ]
 flat_map_in r f v (k ∷ ks) (inl e) j = in_first r (f k) (flat_map f ks) (subst (λ z. In r (f z)) e j)
 flat_map_in r f v (k ∷ ks) (inr i) j = in_second r (f k) (flat_map f ks) (flat_map_in r f v ks i j)
+
+pub in_map : {A B : Type 0} (f : A → B) (y : B) (xs : List A) → In y (map f xs) → (x : A) × In x xs × (y ≡ f x)
+in_map f y [] i = elim i [ ]
+in_map f y (x ∷ xs) (inl e) = (x, inl refl, e)
+in_map f y (x ∷ xs) (inr i) = let m = in_map f y xs i in (m.0, inr m.1, m.2)
+
+pub in_zip : {A B : Type 0} (xs : List A) (ys : List B) (p : A × B) → In p (zip xs ys) → In p.0 xs × In p.1 ys
+in_zip [] ys p i = elim i [ ]
+in_zip (x ∷ xs) [] p i = elim i [ ]
+in_zip (x ∷ xs) (y ∷ ys) p (inl e) = (inl (ap (λ q. q.0) e), inl (ap (λ q. q.1) e))
+in_zip (x ∷ xs) (y ∷ ys) p (inr i) = let m = in_zip xs ys p i in (inr m.0, inr m.1)

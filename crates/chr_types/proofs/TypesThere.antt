@@ -11,7 +11,8 @@ use Rattle.chr_types.proofs.Bases.{apart, distance_above, distance_below, neares
 use Rattle.chr_types.proofs.ByValue.{AreCandidateValues, lists_from}
 use Rattle.chr_types.proofs.Members.{in_first, in_second}
 use Rattle.chr_types.proofs.Theorem.{types_are}
-use Rattle.chr_types.proofs.TooMany.{more_types, many_classes}
+use Rattle.chr_types.proofs.BesideFirst.{many_classes}
+use Rattle.chr_types.proofs.TooMany.{more_types}
 
 -- ---- rising lists of given members
 

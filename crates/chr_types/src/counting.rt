@@ -5,7 +5,7 @@ ghost use Rattle.chr_types.specs.OrderTypes.{Rises, MoreTypesThan};
 ghost use Rattle.chr_types.specs.working.Counting.{most_types};
 
 use crate::candidates::all_candidates;
-use crate::listing::{MAX_CLASSES, has_more_lists};
+use crate::listing::{MAX_CLASSES, are_many, has_more_lists};
 use crate::visitors::{AllLists, LimitedCount};
 use crate::walk::walk;
 use std::alloc::{AllocError, Global};
@@ -56,6 +56,9 @@ pub fn has_more_types(
     ensures { IfOk result (λ more. IsTrue more ↔ MoreTypesThan limit classes constants.now) }
 {
     if classes > MAX_CLASSES {
+        return Ok(true);
+    }
+    if are_many(classes, limit) {
         return Ok(true);
     }
     if are_few(classes, constants.len(), limit) {

@@ -1,5 +1,5 @@
 //! All order types.
-ghost use Rattle.std.specs.Prelude.{◌≡◌, ◌<◌, ◌≤◌, ◌^◌, IfOk, IfErr, vec_len};
+ghost use Rattle.std.specs.Prelude.{◌≡◌, ◌<◌, ◌≤◌, ◌^◌, ℤ, List, IfOk, IfErr, vec_len};
 ghost use Rattle.std.specs.Bool.{OnTrue};
 ghost use Rattle.chr_types.specs.OrderTypes.{Rises, MoreTypesThan};
 ghost use Rattle.chr_types.specs.Representatives.{AreTypes};
@@ -13,18 +13,32 @@ use crate::search::add_lists;
 use std::alloc::Global;
 
 /// The greatest number of classes whose order types can be within a limit. Of more classes there are more than any
-/// limit: with the first class at one value, each other class can be equal to it or greater.
+/// limit: each class but the first can be equal to it or greater.
 pub const MAX_CLASSES: usize = 64;
 
-/// Whether there are more lists of `classes` constants than `limit`. Each of these lists has an order type of its own.
-pub(crate) fn has_more_lists(constants: usize, classes: usize, limit: usize) -> bool
-    ensures { OnTrue result (limit < constants ^ classes) }
+/// Whether there are more lists of `length` values out of `values` than `limit`.
+pub(crate) fn has_more_lists(values: usize, length: usize, limit: usize) -> bool
+    ensures { OnTrue result (limit < values ^ length) }
 {
     let mut lists: usize = 1;
-    for _class in 0..classes {
-        lists = lists.saturating_mul(constants);
+    for _place in 0..length {
+        lists = lists.saturating_mul(values);
     }
     lists > limit
+}
+
+/// Less, equal and greater.
+const COMPARISONS: usize = 3;
+
+/// Whether `classes` classes have more order types than `limit`, whatever the constants, since each class but the first
+/// may be less than it, equal to it or greater.
+pub(crate) fn are_many(classes: usize, limit: usize) -> bool
+    ensures { OnTrue result ((constants : List ℤ) → MoreTypesThan limit classes constants) }
+{
+    match classes.checked_sub(1) {
+        Some(others) => has_more_lists(COMPARISONS, others, limit),
+        None => false,
+    }
 }
 
 /// All order types of `classes` classes among the constants, each by its representative, in lexicographic order.
@@ -51,9 +65,12 @@ pub fn types(
     if classes > MAX_CLASSES {
         return Err(TypesFault::TooManyTypes);
     }
+    if are_many(classes, limit) {
+        return Err(TypesFault::TooManyTypes);
+    }
     let candidates = all_candidates(alloc, classes, constants)?;
-    // The search goes through all candidates for each value of a list, so it is not begun where it would pass the
-    // limit.
+    // Each list of constants has an order type of its own. The search goes through all candidates for each value of a
+    // list, so it is not begun where it would pass the limit.
     if has_more_lists(constants.len(), classes, limit) {
         return Err(TypesFault::TooManyTypes);
     }

@@ -24,6 +24,7 @@ from .faults import (
     PageUnusable,
     ProgramChanged,
 )
+from .folder import FolderMember
 from .following import Following, Watch
 from .log import (
     Count,
@@ -49,6 +50,7 @@ __all__ = [
     "Count",
     "Diverged",
     "Entry",
+    "FolderMember",
     "Following",
     "Heard",
     "Lease",

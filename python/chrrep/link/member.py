@@ -9,7 +9,7 @@ from collections.abc import Callable, Iterable, Iterator, Mapping, Sequence
 from contextlib import contextmanager, suppress
 from functools import partial
 from itertools import chain
-from typing import NamedTuple, TypeVar
+from typing import NamedTuple, TypeVar, cast
 
 from ..closing import Closing
 from ..columns import Columns, ColumnsWarning, Orders, OrderWarning, warn
@@ -40,6 +40,8 @@ from .faults import (
     OtherProgram,
     ProgramChanged,
 )
+from .folder import PREFIX as FOLDER_PREFIX
+from .folder import FolderMember, folder_of
 from .following import Following, Watch
 from .log import (
     LOG_NAME,
@@ -756,8 +758,15 @@ def join(
     snapshot_after: int = SNAPSHOT_AFTER,
 ) -> Member:
     """A member of the log in the engine that the address names, as `connect` and `Member` say. Its `close`, or leaving
-    a `with`, closes all. Where the program is refused, or there is none, no file is made."""
+    a `with`, closes all. Where the program is refused, or there is none, no file is made.
+
+    The address `dir:///PATH` names a folder, and gives a `FolderMember`, which has the calls of a member but those of
+    snapshots and of other programs."""
     text = None if program is None else program_bytes(program)
+    if url.startswith(FOLDER_PREFIX):
+        folder = FolderMember(folder_of(url), text, wide=wide, timeout=timeout)
+        # what it lacks of a member is what a log alone has
+        return cast(Member, folder)
     brought = _brought(text, wide, Running(timeout=timeout)) if _makes_file(url) else None
     connects = partial(connect, url, origin, log=log, patience=patience)
     try:

@@ -242,13 +242,19 @@ class Verdicts(unittest.TestCase):
         self.assertGreater(alone, PROGRAMS // 40, kinds)
 
     def check_stores(self, chance: random.Random, made: Program, *options: str) -> None:
+        """Each store has one end: of all its atoms at once, of two parts that rested before they met, and by steps that
+        are chosen at random."""
         for _ in range(STORES):
             atoms = store(chance, made, STORE_ATOMS)
             end = store_text(plain_end(made, atoms))
             told = [[atom.name, *atom.terms] for atom in atoms]
-            with self.subTest(program=str(made), store=store_text(atoms)):
-                lines = (["tell", 1, [1, 1], told], ["show", 1])
-                self.assertEqual(answers(str(made), lines, *options)[-1], end)
+            cut = chance.randrange(1, STORE_ATOMS)
+            with self.subTest(program=str(made), store=store_text(atoms), cut=cut):
+                whole = (["tell", 1, [1, 1], told], ["show", 1])
+                parts = (["tell", 2, [1, 2], told[:cut]], ["show", 2], ["tell", 3, [1, 3], told[cut:]], ["show", 3])
+                lines = (*whole, *parts, ["sync", 3, 2], ["show", 2])
+                shown = answers(str(made), lines, "--replicas", "3", *options)
+                self.assertEqual((shown[2], shown[-1]), (end, end))
                 self.assertEqual(store_text(random_end(chance, made, atoms)), end)
 
 

@@ -247,17 +247,12 @@ class FailingCalls(unittest.TestCase):
                     self.assertEqual(end, End(FAULT, output[: number - 1], b"", True))
 
     def test_each_write(self) -> None:
-        """A service writes its verdict, and then what it answers to all lines that have come. What is before a failing
-        write is written."""
-        verdict, *answers = OUTPUT.splitlines(keepends=True)
+        """All that is answered to lines that came together is written at once, by a service too, its verdict with it.
+        What is before a failing write is written."""
         for words in WORDS:
-            writes = [verdict, b"".join(answers)] if words[0] == "serve" else [whole(words)]
-            for number in range(1, len(writes) + 1):
-                with self.subTest(words=words, number=number):
-                    end = self.end(words, FAILING_WRITE=number)
-                    self.assertEqual(end, End(FAULT, b"".join(writes[: number - 1]), b"", True))
             with self.subTest(words=words):
-                self.assertEqual(self.end(words, FAILING_WRITE=len(writes) + 1), End(0, whole(words), b"", False))
+                self.assertEqual(self.end(words, FAILING_WRITE=1), End(FAULT, b"", b"", True))
+                self.assertEqual(self.end(words, FAILING_WRITE=2), End(0, whole(words), b"", False))
 
     def test_each_read_of_a_byte(self) -> None:
         """The last one meets the end of the input. A service has answered the lines before it, the others nothing."""

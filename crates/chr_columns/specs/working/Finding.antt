@@ -4,7 +4,7 @@ use Rattle.std.specs.Prelude.{Option, Some, None, IsTrue, is_some}
 use Rattle.chr_base.specs.declared.atom.Atom.{Atom}
 use Rattle.chr_plans.specs.declared.key.Order.TheVariants.{Unordered}
 use Rattle.chr_plans.specs.declared.plan.Lookup.{Lookup}
-use Rattle.chr_plans.specs.Rows.{Tables, Columns}
+use Rattle.chr_plans.specs.Rows.{Tables, Columns, Ranks}
 use Rattle.chr_tables.specs.Contents.{Contents}
 use Rattle.chr_plans.specs.Grids.{rows_in}
 use Rattle.chr_columns.specs.working.Listing.{rows_in_turn}
@@ -21,6 +21,10 @@ only_table rows = rows_in (rows ∷ [])
 abbrev pub only_index : Columns
 only_index zero index = Some []
 only_index (suc table) index = None
+
+-- the one table is gone through from its last row down: the rank of a row is its number
+abbrev pub newest_first : Ranks
+newest_first table index row = row
 
 -- the row lives
 abbrev pub Lives : List (Option Atom) → ℕ → Type 0

@@ -15,7 +15,7 @@ use Rattle.chr_plans.specs.Plans.{IsPlan, pattern_at, partners_of}
 use Rattle.chr_plans.specs.Plans as plan
 use Rattle.chr_plans.specs.Reactions.{MayResume}
 use Rattle.chr_plans.specs.Seats.{IsSeated, head}
-use Rattle.chr_tables.specs.Contents.{Contents, rows_of, index_columns}
+use Rattle.chr_tables.specs.Contents.{Contents, rows_of, index_columns, ranks_of}
 use Rattle.chr_plans.specs.Grids.{Grid, contents}
 use Rattle.chr_columns.specs.declared.groups.Group.{Group}
 use Rattle.chr_columns.specs.declared.rested.Rested.{Rested}
@@ -98,7 +98,7 @@ pub record IsReacting (r : Rested) (a : Atom) (o : Occurrence) (heads : List Ato
 abbrev pub MayGoOn : Rested → Atom → Standing → Type 0
 MayGoOn r a s =
     (g : Group) → slice_get r.directory.groups.items (table_of_atom r.directory.groups.items a) ≡ Some g
-    → MayResume r.rules.items (rows_of r.tables.tables.items) a g.plans.items s
+    → MayResume r.rules.items (rows_of r.tables.tables.items) (ranks_of r.tables.tables.items) a g.plans.items s
 
 -- the search for partners of the last fresh atom may go on where it stands, if it stands somewhere
 abbrev pub Stands : Rested → List Atom → Option Standing → Type 0

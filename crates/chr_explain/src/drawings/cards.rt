@@ -1,9 +1,10 @@
 //! Both ways of a case that fails, step by step.
 
+use crate::prose::Prose;
 use chr_base::bag::Bag;
 use chr_base::derivation::{Derivation, Step};
 use chr_diagnosis::{NamedProgram, Peak, told_rule};
-use chr_faults::{Names, push_number};
+use chr_faults::Names;
 use std::alloc::{AllocError, Global};
 
 /// A step, and the store that it leaves.
@@ -35,11 +36,27 @@ impl Drop for Cards {
 
 /// What a step does.
 fn step_text(alloc: Global, source: NamedProgram<'_>, step: &Step) -> Result<String, AllocError> {
-    let mut text = String::new(alloc);
+    let mut text = Prose::new(alloc);
     if let Some(rule) = told_rule(source, step.rule as usize) {
-        rule.push_step(&mut text, &step.heads)?;
+        text.push_step(rule, &step.heads);
     }
-    Ok(text)
+    text.finish()
+}
+
+/// The card of an end after so many steps that are not told.
+fn last_card(
+    alloc: Global,
+    source: NamedProgram<'_>,
+    more: usize,
+    end: &Bag,
+) -> Result<Card, AllocError> {
+    let mut step = Prose::new(alloc);
+    step.push_number("", more as u64, " steps more");
+    Ok(Card {
+        step: step.finish()?,
+        store: source.store_text(alloc, end)?,
+        is_end: true,
+    })
 }
 
 /// The cards of one way whose first stores are these.
@@ -63,14 +80,7 @@ fn way_cards(
     }
     let more = way.steps.len().saturating_sub(stores.len());
     if 0 < more {
-        let mut step = String::new(alloc);
-        push_number(&mut step, "", more as u64, " steps more")?;
-        let store = source.store_text(alloc, end)?;
-        cards.push(Card {
-            step,
-            store,
-            is_end: true,
-        })?;
+        cards.push(last_card(alloc, source, more, end)?)?;
     }
     Ok(cards)
 }

@@ -1,11 +1,12 @@
 //! The rules of an accepted program and their cases, as nodes and edges.
 
-use crate::drawings::graph::{Edge, Graph, Meaning, Node};
+use crate::drawings::graph::{Edge, Graph, Meaning, Node, node_with};
 use crate::drawings::groups::{Group, groups_of, place_of_rule};
 use crate::drawings::limits::MAX_TOLD_COPIES;
+use crate::prose::Prose;
 use crate::sentences::{ToldPair, pairs_of, push_numbers};
 use chr_diagnosis::{Census, NamedProgram, told_rule};
-use chr_faults::{Names, push_number};
+use chr_faults::Names;
 use chr_join::Coverage;
 use std::alloc::{AllocError, Global};
 
@@ -18,16 +19,16 @@ struct Link {
 }
 
 /// Tells of the copies of a group's first rule, where it has some.
-fn push_copies(out: &mut String, group: &Group) -> Result<(), AllocError> {
+fn push_copies(out: &mut Prose, group: &Group) {
     let copies = group.rules.len().saturating_sub(1);
     if copies == 0 {
-        return Ok(());
+        return;
     }
-    push_number(out, "and ", copies as u64, " more like it: rules")?;
+    out.push_number("and ", copies as u64, " more like it: rules");
     for (i, rule) in group.rules.iter().enumerate() {
         if 0 < i && i <= MAX_TOLD_COPIES {
             let before = if i == 1 { " " } else { ", " };
-            push_number(out, before, u64::from(*rule), "")?;
+            out.push_number(before, u64::from(*rule), "");
         }
     }
     out.push_str(if MAX_TOLD_COPIES < copies { ", .." } else { "" })
@@ -36,15 +37,15 @@ fn push_copies(out: &mut String, group: &Group) -> Result<(), AllocError> {
 /// The node of a group: its first rule.
 fn node_of(alloc: Global, source: NamedProgram<'_>, group: &Group) -> Result<Node, AllocError> {
     let number = group.first();
-    let mut name = String::new(alloc);
-    push_number(&mut name, "rule", u64::from(number), "")?;
-    let mut text = String::new(alloc);
+    let mut name = Prose::new(alloc);
+    name.push_number("rule", u64::from(number), "");
+    let mut text = Prose::new(alloc);
     if let Some(rule) = told_rule(source, number as usize) {
-        rule.push_clause(alloc, &mut text)?;
+        text.push_clause(alloc, rule);
     }
-    let mut more = String::new(alloc);
-    push_copies(&mut more, group)?;
-    Ok(Node { name, text, more })
+    let mut more = Prose::new(alloc);
+    push_copies(&mut more, group);
+    node_with(name, text, more)
 }
 
 /// The groups of a pair of rules.
@@ -79,19 +80,19 @@ fn has_cases(pair: &ToldPair, coverage: Coverage) -> bool {
 
 /// The edge of two groups.
 fn edge_of(alloc: Global, link: &Link, coverage: Coverage) -> Result<Edge, AllocError> {
-    let mut text = String::new(alloc);
-    push_numbers(&mut text, &link.pair, coverage)?;
+    let mut text = Prose::new(alloc);
+    push_numbers(&mut text, &link.pair, coverage);
     let number = match coverage {
         Coverage::Joint => link.pair.cases,
         Coverage::Sorted => link.pair.overlaps,
     };
-    let mut mark = String::new(alloc);
-    push_number(&mut mark, "", number as u64, "")?;
+    let mut mark = Prose::new(alloc);
+    mark.push_number("", number as u64, "");
     Ok(Edge {
         from: link.from,
         to: link.to,
-        text,
-        mark,
+        text: text.finish()?,
+        mark: mark.finish()?,
     })
 }
 

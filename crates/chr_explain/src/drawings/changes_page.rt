@@ -2,41 +2,41 @@
 
 use crate::drawings::difference::changed_part;
 use crate::drawings::html::{push_html, push_html_char};
+use crate::prose::Prose;
 use crate::sentences::Told;
 use chr_diagnosis::Proposal;
-use chr_faults::{Span, push_number};
+use chr_faults::Span;
 use std::alloc::{AllocError, Global};
 
 /// Adds a paragraph.
-fn push_paragraph(out: &mut String, sentence: &str) -> Result<(), AllocError> {
-    out.push_str("<p>")?;
-    push_html(out, sentence)?;
+fn push_paragraph(out: &mut Prose, sentence: &str) {
+    out.push_str("<p>");
+    push_html(out, sentence);
     out.push_str("</p>\n")
 }
 
 /// Adds a rule, with a mark at the part that is new.
-fn push_marked(out: &mut String, rule: &str, part: Span) -> Result<(), AllocError> {
+fn push_marked(out: &mut Prose, rule: &str, part: Span) {
     for (at, c) in rule.chars().enumerate() {
         if at == part.from && part.from < part.to {
-            out.push_str("<mark>")?;
+            out.push_str("<mark>");
         }
-        push_html_char(out, c)?;
+        push_html_char(out, c);
         if at.saturating_add(1) == part.to && part.from < part.to {
-            out.push_str("</mark>")?;
+            out.push_str("</mark>");
         }
     }
-    Ok(())
 }
 
 /// Adds proposed rules, with marks: the first one stands in place of the rule before, and each other one is new.
 fn push_rules(
     alloc: Global,
-    out: &mut String,
+    out: &mut Prose,
     before: &[u8],
     rules: &str,
 ) -> Result<(), AllocError> {
     for (number, rule) in rules.lines().enumerate() {
-        out.push_str(if number == 0 { "" } else { "\n" })?;
+        out.push_str(if number == 0 { "" } else { "\n" });
         let all = Span {
             from: 0,
             to: rule.len(),
@@ -46,7 +46,7 @@ fn push_rules(
         } else {
             Some(all)
         };
-        push_marked(out, rule, part.unwrap_or(Span { from: 0, to: 0 }))?;
+        push_marked(out, rule, part.unwrap_or(Span { from: 0, to: 0 }));
     }
     Ok(())
 }
@@ -54,19 +54,19 @@ fn push_rules(
 /// Adds one proposal, and what is told of it.
 fn push_change(
     alloc: Global,
-    out: &mut String,
+    out: &mut Prose,
     text: &[u8],
     proposal: &Proposal,
     kept: &[String],
 ) -> Result<(), AllocError> {
     let before = "<h3>Accepted with this in place of rule ";
-    push_number(out, before, proposal.rule as u64, "</h3>\n")?;
+    out.push_number(before, proposal.rule as u64, "</h3>\n");
     let before = text.get(proposal.from..proposal.to).unwrap_or(&[]);
-    out.push_str("<pre class=\"change\" tabindex=\"0\">")?;
+    out.push_str("<pre class=\"change\" tabindex=\"0\">");
     push_rules(alloc, out, before, proposal.rules.as_str())?;
-    out.push_str("</pre>\n")?;
+    out.push_str("</pre>\n");
     for sentence in kept {
-        push_paragraph(out, sentence.as_str())?;
+        push_paragraph(out, sentence.as_str());
     }
     Ok(())
 }
@@ -74,17 +74,18 @@ fn push_change(
 /// Adds what would be right.
 pub(crate) fn push_changes(
     alloc: Global,
-    out: &mut String,
+    out: &mut Prose,
     text: &[u8],
     proposals: &[Proposal],
     told: &Told,
 ) -> Result<(), AllocError> {
-    out.push_str("<section>\n<h2>What would be right</h2>\n")?;
+    out.push_str("<section>\n<h2>What would be right</h2>\n");
     for sentence in &told.advice {
-        push_paragraph(out, sentence)?;
+        push_paragraph(out, sentence);
     }
     for (proposal, kept) in proposals.iter().zip(told.kept.iter()) {
         push_change(alloc, out, text, proposal, kept)?;
     }
-    out.push_str("</section>\n")
+    out.push_str("</section>\n");
+    Ok(())
 }

@@ -1,13 +1,14 @@
 //! The columns of an overlap with too many cases, as nodes and edges.
 
-use crate::drawings::graph::{Edge, Graph, Meaning, Node};
+use crate::drawings::graph::{Edge, Graph, Meaning, Node, node_with};
+use crate::prose::Prose;
 use crate::sentences::{columns_text, has_head, push_column, push_symbol};
 use chr_base::atom::SymbolId;
 use chr_base::program::Program;
 use chr_base::rule::Rule;
 use chr_base::term::{Cmp, Comparison, Pattern, Term};
 use chr_diagnosis::{NamedProgram, sign};
-use chr_faults::{Names, push_number};
+use chr_faults::{Names, push_text};
 use chr_overlaps::Overlap;
 use chr_sorting::{Sorting, finest_sorts};
 use std::alloc::{AllocError, Global};
@@ -109,22 +110,24 @@ fn node_of(
     sorting: &Sorting,
     symbol: SymbolId,
 ) -> Result<Node, AllocError> {
-    let mut name = String::new(alloc);
-    push_number(&mut name, "symbol", u64::from(symbol.0), "")?;
-    let mut text = String::new(alloc);
-    push_symbol(&mut text, source.program, symbol)?;
+    let mut name = Prose::new(alloc);
+    name.push_number("symbol", u64::from(symbol.0), "");
+    let mut text = Prose::new(alloc);
+    push_symbol(&mut text, source.program, symbol);
     let columns = columns_text(alloc, source, sorting, symbol)?;
-    let more = match columns.as_str().strip_prefix("; ") {
-        Some(columns) => String::from_str(alloc, columns)?,
-        None => String::from_str(alloc, "no column is compared")?,
-    };
-    Ok(Node { name, text, more })
+    let mut more = Prose::new(alloc);
+    more.push_str(
+        columns
+            .as_str()
+            .strip_prefix("; ")
+            .unwrap_or("no column is compared"),
+    );
+    node_with(name, text, more)
 }
 
 /// Adds a further comparison to what an edge says.
 fn push_more(out: &mut String, text: &str) -> Result<(), AllocError> {
-    out.push_str(", ")?;
-    out.push_str(text)
+    push_text(out, ", ", text, "")
 }
 
 /// Adds a comparison to the edge of these nodes, which may be a new one.
@@ -165,23 +168,21 @@ fn compared_text(
     source: NamedProgram<'_>,
     compared: &Compared,
 ) -> Result<String, AllocError> {
-    let mut text = String::new(alloc);
+    let mut text = Prose::new(alloc);
     push_column(
         &mut text,
         source,
         compared.left.symbol,
         compared.left.number,
-    )?;
-    text.push_str(" ")?;
-    text.push_str(sign(compared.cmp))?;
-    text.push_str(" ")?;
+    );
+    text.push_text(" ", sign(compared.cmp), " ");
     push_column(
         &mut text,
         source,
         compared.right.symbol,
         compared.right.number,
-    )?;
-    Ok(text)
+    );
+    text.finish()
 }
 
 /// Adds a comparison of two columns, where their symbols have nodes.

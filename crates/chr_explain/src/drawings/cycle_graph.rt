@@ -1,13 +1,14 @@
 //! Rules that keep the weight, as nodes and edges.
 
-use crate::drawings::graph::{Edge, Graph, Meaning, Node};
+use crate::drawings::graph::{Edge, Graph, Meaning, Node, node_with};
+use crate::prose::Prose;
 use crate::sentences::push_symbol;
 use chr_base::atom::SymbolId;
 use chr_base::program::Program;
 use chr_base::rule::Rule;
 use chr_base::term::Pattern;
 use chr_diagnosis::{NamedProgram, ToldRule, told_rule};
-use chr_faults::{Names, push_number};
+use chr_faults::Names;
 use chr_weighing::Cycle;
 use std::alloc::{AllocError, Global};
 
@@ -40,17 +41,17 @@ fn applied_in<'a>(
 
 /// The node of a rule.
 fn node_of(alloc: Global, applied: &Applied<'_>) -> Result<Node, AllocError> {
-    let mut name = String::new(alloc);
-    push_number(&mut name, "rule", applied.rule.number as u64, "")?;
-    let mut text = String::new(alloc);
-    applied.rule.push_clause(alloc, &mut text)?;
-    let mut more = String::new(alloc);
+    let mut name = Prose::new(alloc);
+    name.push_number("rule", applied.rule.number as u64, "");
+    let mut text = Prose::new(alloc);
+    text.push_clause(alloc, applied.rule);
+    let mut more = Prose::new(alloc);
     if applied.times == 1 {
-        more.push_str("once")?;
+        more.push_str("once");
     } else {
-        push_number(&mut more, "", applied.times, " times")?;
+        more.push_number("", applied.times, " times");
     }
-    Ok(Node { name, text, more })
+    node_with(name, text, more)
 }
 
 /// Whether one of these atoms has the symbol.
@@ -65,16 +66,16 @@ fn passed_text(
     from: &Rule,
     to: &Rule,
 ) -> Result<String, AllocError> {
-    let mut text = String::new(alloc);
+    let mut text = Prose::new(alloc);
     for number in 0..program.symbols() {
         let symbol = SymbolId(u16::try_from(number).unwrap_or(u16::MAX));
         if has_symbol(&from.body, symbol) && has_symbol(&to.removed, symbol) {
             let before = if text.is_empty() { "" } else { ", " };
-            text.push_str(before)?;
-            push_symbol(&mut text, program, symbol)?;
+            text.push_str(before);
+            push_symbol(&mut text, program, symbol);
         }
     }
-    Ok(text)
+    text.finish()
 }
 
 /// Adds the edges from one of the rules to those that take what it gives.

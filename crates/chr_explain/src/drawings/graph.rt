@@ -1,5 +1,8 @@
 //! Nodes and edges that are drawn of a program: by Graphviz, or on a page.
 
+use crate::prose::Prose;
+use std::alloc::AllocError;
+
 /// A node.
 pub(crate) struct Node {
     /// Its name in the language of Graphviz.
@@ -8,6 +11,15 @@ pub(crate) struct Node {
     pub text: String,
     /// What it says below, if that is not empty.
     pub more: String,
+}
+
+/// A node with this name that says this.
+pub(crate) fn node_with(name: Prose, text: Prose, more: Prose) -> Result<Node, AllocError> {
+    Ok(Node {
+        name: name.finish()?,
+        text: text.finish()?,
+        more: more.finish()?,
+    })
 }
 
 /// An edge.

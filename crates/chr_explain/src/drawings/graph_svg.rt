@@ -6,7 +6,7 @@ use crate::drawings::limits::MAX_MARKED_EDGES;
 use crate::drawings::svg::{
     CHARACTER, Frame, MARGIN, push_frame, push_svg, push_svg_text, width_of,
 };
-use chr_faults::push_number;
+use crate::prose::Prose;
 use std::alloc::{AllocError, Global};
 
 /// How high a row is.
@@ -193,24 +193,19 @@ fn width_in(layout: Layout, arcs: &[Arc<'_>]) -> usize {
 }
 
 /// Adds a node in the row of this place.
-fn push_node(
-    out: &mut String,
-    layout: Layout,
-    place: usize,
-    node: &Node,
-) -> Result<(), AllocError> {
+fn push_node(out: &mut Prose, layout: Layout, place: usize, node: &Node) {
     let frame = Frame {
         x: MARGIN,
         y: middle(place).saturating_sub(HEIGHT / 2),
         width: layout.x.saturating_sub(MARGIN),
         height: HEIGHT,
     };
-    push_frame(out, frame)?;
+    push_frame(out, frame);
     let x = MARGIN.saturating_mul(2);
     let y = middle(place).saturating_add(4);
-    push_svg_text(out, x, y, "word", node.text.as_str())?;
+    push_svg_text(out, x, y, "word", node.text.as_str());
     if node.more.is_empty() {
-        return Ok(());
+        return;
     }
     let behind = x
         .saturating_add(width_of(node.text.as_str()))
@@ -219,53 +214,48 @@ fn push_node(
 }
 
 /// Adds what an edge says, with the names of its rules.
-fn push_title(out: &mut String, graph: &Graph, edge: &Edge) -> Result<(), AllocError> {
-    out.push_str("<title>")?;
+fn push_title(out: &mut Prose, graph: &Graph, edge: &Edge) {
+    out.push_str("<title>");
     if graph.meaning != Meaning::Columns {
         if let (Some(from), Some(to)) = (graph.nodes.get(edge.from), graph.nodes.get(edge.to)) {
-            push_html(out, from.name.as_str())?;
-            out.push_str(", ")?;
-            push_html(out, to.name.as_str())?;
-            out.push_str(": ")?;
+            push_html(out, from.name.as_str());
+            out.push_str(", ");
+            push_html(out, to.name.as_str());
+            out.push_str(": ");
         }
     }
-    push_html(out, edge.text.as_str())?;
+    push_html(out, edge.text.as_str());
     out.push_str("</title>")
 }
 
 /// Adds a point of a path behind this.
-fn push_point(out: &mut String, before: &str, x: usize, y: usize) -> Result<(), AllocError> {
-    push_number(out, before, x as u64, " ")?;
-    push_number(out, "", y as u64, "")
+fn push_point(out: &mut Prose, before: &str, x: usize, y: usize) {
+    out.push_number(before, x as u64, " ");
+    out.push_number("", y as u64, "")
 }
 
 /// Adds the curve of an edge.
-fn push_curve(out: &mut String, layout: Layout, arc: &Arc<'_>) -> Result<(), AllocError> {
+fn push_curve(out: &mut Prose, layout: Layout, arc: &Arc<'_>) {
     let x = layout.x;
     let far = x.saturating_add(arc.reach);
-    push_point(out, "<path class=\"edge\" d=\"M", x, arc.from)?;
-    push_point(out, " C", far, arc.from)?;
-    push_point(out, " ", far, arc.to)?;
-    push_point(out, " ", x, arc.to)?;
+    push_point(out, "<path class=\"edge\" d=\"M", x, arc.from);
+    push_point(out, " C", far, arc.from);
+    push_point(out, " ", far, arc.to);
+    push_point(out, " ", x, arc.to);
     out.push_str("\"/>\n")
 }
 
 /// Adds an edge.
-fn push_edge(
-    out: &mut String,
-    layout: Layout,
-    graph: &Graph,
-    arc: &Arc<'_>,
-) -> Result<(), AllocError> {
-    out.push_str("<g>")?;
-    push_title(out, graph, arc.edge)?;
-    push_curve(out, layout, arc)?;
+fn push_edge(out: &mut Prose, layout: Layout, graph: &Graph, arc: &Arc<'_>) {
+    out.push_str("<g>");
+    push_title(out, graph, arc.edge);
+    push_curve(out, layout, arc);
     if graph.meaning == Meaning::Cycle {
-        push_point(out, "<path class=\"tip\" d=\"M", layout.x, arc.to)?;
-        out.push_str(" l9 -4 v8 z\"/>\n")?;
+        push_point(out, "<path class=\"tip\" d=\"M", layout.x, arc.to);
+        out.push_str(" l9 -4 v8 z\"/>\n");
     }
     if !arc.mark.is_empty() {
-        push_svg_text(out, arc.mark_x, arc.mark_y, "mark", arc.mark)?;
+        push_svg_text(out, arc.mark_x, arc.mark_y, "mark", arc.mark);
     }
     out.push_str("</g>\n")
 }
@@ -282,7 +272,7 @@ fn subject_of(meaning: Meaning) -> &'static str {
 /// Adds nodes, one below another, and edges beside them.
 pub(crate) fn push_graph_svg(
     alloc: Global,
-    out: &mut String,
+    out: &mut Prose,
     graph: &Graph,
 ) -> Result<(), AllocError> {
     let layout = layout_of(&graph.nodes);
@@ -290,16 +280,20 @@ pub(crate) fn push_graph_svg(
     let height = rows
         .saturating_mul(ROW)
         .saturating_add(MARGIN.saturating_mul(2));
-    let mut label = String::new(alloc);
-    push_number(&mut label, "", rows as u64, " ")?;
-    label.push_str(subject_of(graph.meaning))?;
     let arcs = arcs_of(alloc, layout, graph)?;
-    push_svg(out, width_in(layout, &arcs), height, label.as_str())?;
+    push_svg(
+        out,
+        width_in(layout, &arcs),
+        height,
+        rows,
+        subject_of(graph.meaning),
+    );
     for (place, node) in graph.nodes.iter().enumerate() {
-        push_node(out, layout, place, node)?;
+        push_node(out, layout, place, node);
     }
     for arc in &arcs {
-        push_edge(out, layout, graph, arc)?;
+        push_edge(out, layout, graph, arc);
     }
-    out.push_str("</svg>\n")
+    out.push_str("</svg>\n");
+    Ok(())
 }

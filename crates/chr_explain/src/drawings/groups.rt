@@ -1,6 +1,7 @@
 //! Rules that are copies of one another: but for the names of their symbols, their numbers and their own names they
 //! are one.
 
+use crate::prose::Prose;
 use chr_base::atom::SymbolId;
 use chr_base::program::Program;
 use chr_base::rule::Rule;
@@ -46,49 +47,50 @@ fn number_of(met: &mut Vec<SymbolId>, symbol: SymbolId) -> Result<usize, AllocEr
 }
 
 /// Adds a term: of a constant only that it is one.
-fn push_term(out: &mut String, term: Term) -> Result<(), AllocError> {
+fn push_term(out: &mut Prose, term: Term) {
     match term {
-        Term::Variable(variable) => push_number(out, " V", u64::from(variable), ""),
+        Term::Variable(variable) => out.push_number(" V", u64::from(variable), ""),
         Term::Constant(_) => out.push_str(" #"),
     }
 }
 
 /// Adds atoms: of a symbol its number by first occurrence.
 fn push_patterns(
-    out: &mut String,
+    out: &mut Prose,
     met: &mut Vec<SymbolId>,
     patterns: &[Pattern],
 ) -> Result<(), AllocError> {
     for pattern in patterns {
         let number = number_of(met, pattern.symbol)?;
-        push_number(out, " s", number as u64, "")?;
+        out.push_number(" s", number as u64, "");
         for term in pattern.args.iter() {
-            push_term(out, *term)?;
+            push_term(out, *term);
         }
     }
-    out.push_str(";")
+    out.push_str(";");
+    Ok(())
 }
 
 /// Adds comparisons.
-fn push_comparisons(out: &mut String, guard: &[Comparison]) -> Result<(), AllocError> {
+fn push_comparisons(out: &mut Prose, guard: &[Comparison]) {
     for comparison in guard {
-        push_term(out, comparison.left)?;
-        out.push_str(" ")?;
-        out.push_str(sign(comparison.cmp))?;
-        push_term(out, comparison.right)?;
+        push_term(out, comparison.left);
+        out.push_str(" ");
+        out.push_str(sign(comparison.cmp));
+        push_term(out, comparison.right);
     }
     out.push_str(";")
 }
 
 /// What the rule has in common with its copies.
 fn shape_of(alloc: Global, rule: &Rule) -> Result<String, AllocError> {
-    let mut shape = String::new(alloc);
+    let mut shape = Prose::new(alloc);
     let mut met = Vec::new(alloc);
     push_patterns(&mut shape, &mut met, &rule.kept)?;
     push_patterns(&mut shape, &mut met, &rule.removed)?;
-    push_comparisons(&mut shape, &rule.guard)?;
+    push_comparisons(&mut shape, &rule.guard);
     push_patterns(&mut shape, &mut met, &rule.body)?;
-    Ok(shape)
+    shape.finish()
 }
 
 /// Adds a rule of this shape to its group, which may be a new one.

@@ -1,9 +1,9 @@
 //! Text in pages of HTML.
 
-use std::alloc::AllocError;
+use crate::prose::Prose;
 
 /// Adds one character of a text: five of them have a meaning in a page.
-pub(crate) fn push_html_char(out: &mut String, c: char) -> Result<(), AllocError> {
+pub(crate) fn push_html_char(out: &mut Prose, c: char) {
     match c {
         '&' => out.push_str("&amp;"),
         '<' => out.push_str("&lt;"),
@@ -15,20 +15,18 @@ pub(crate) fn push_html_char(out: &mut String, c: char) -> Result<(), AllocError
 }
 
 /// Adds a text.
-pub(crate) fn push_html(out: &mut String, text: &str) -> Result<(), AllocError> {
+pub(crate) fn push_html(out: &mut Prose, text: &str) {
     for c in text.chars() {
-        push_html_char(out, c)?;
+        push_html_char(out, c);
     }
-    Ok(())
 }
 
 /// Adds the first line of a text.
-pub(crate) fn push_first_line(out: &mut String, text: &str) -> Result<(), AllocError> {
+pub(crate) fn push_first_line(out: &mut Prose, text: &str) {
     for c in text.chars() {
         if c == '\n' {
-            return Ok(());
+            return;
         }
-        push_html_char(out, c)?;
+        push_html_char(out, c);
     }
-    Ok(())
 }

@@ -1,7 +1,7 @@
 //! Labels of nodes and edges in the language of Graphviz.
 
 use crate::drawings::limits::MAX_DRAWN_BYTES;
-use std::alloc::AllocError;
+use crate::prose::Prose;
 
 /// Where the lines of a label end: in the middle, or on the left.
 #[derive(Clone, Copy)]
@@ -21,7 +21,7 @@ impl Align {
 }
 
 /// Adds one character of a label. Quotes end a label, backslashes and ampersands have a meaning in it.
-fn push_escaped(out: &mut String, c: char, align: Align) -> Result<(), AllocError> {
+fn push_escaped(out: &mut Prose, c: char, align: Align) {
     match c {
         '"' => out.push_str("\\\""),
         '\\' => out.push_str("\\\\"),
@@ -32,11 +32,19 @@ fn push_escaped(out: &mut String, c: char, align: Align) -> Result<(), AllocErro
     }
 }
 
+/// Adds a label of what was written.
+pub(crate) fn push_written(out: &mut Prose, written: Prose, align: Align) {
+    match written.finish() {
+        Ok(text) => push_label(out, text.as_str(), align),
+        Err(_) => out.lose(),
+    }
+}
+
 /// Adds a label, `MAX_DRAWN_BYTES` characters of it at most.
-pub(crate) fn push_label(out: &mut String, text: &str, align: Align) -> Result<(), AllocError> {
-    out.push_str("[label=\"")?;
+pub(crate) fn push_label(out: &mut Prose, text: &str, align: Align) {
+    out.push_str("[label=\"");
     for c in text.chars().take(MAX_DRAWN_BYTES) {
-        push_escaped(out, c, align)?;
+        push_escaped(out, c, align);
     }
     out.push_str(if MAX_DRAWN_BYTES < text.len() {
         "..\"]"

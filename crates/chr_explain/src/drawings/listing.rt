@@ -1,6 +1,7 @@
 //! The text of a program on a page, with marks at its faulty places.
 
 use crate::drawings::html::{push_html, push_html_char};
+use crate::prose::Prose;
 use crate::sentences::Told;
 use chr_diagnosis::Diagnosis;
 use chr_faults::{Span, TextFaults, bad_spans, rule_span, shown};
@@ -56,7 +57,7 @@ fn is_marked(spans: &[Span], at: usize) -> bool {
 }
 
 /// Adds the begin or the end of a mark, where one is.
-fn push_turn(out: &mut String, was_in: bool, is_in: bool) -> Result<(), AllocError> {
+fn push_turn(out: &mut Prose, was_in: bool, is_in: bool) {
     out.push_str(match (was_in, is_in) {
         (false, true) => "<mark>",
         (true, false) => "</mark>",
@@ -65,34 +66,28 @@ fn push_turn(out: &mut String, was_in: bool, is_in: bool) -> Result<(), AllocErr
 }
 
 /// Adds what is told of a place: what is wrong, and what would be right, where that is told.
-fn push_note(out: &mut String, message: &str, remedy: &str) -> Result<(), AllocError> {
-    out.push_str("<em>")?;
-    push_html(out, message)?;
-    out.push_str(if remedy.is_empty() { "" } else { "<br>" })?;
-    push_html(out, remedy)?;
+fn push_note(out: &mut Prose, message: &str, remedy: &str) {
+    out.push_str("<em>");
+    push_html(out, message);
+    out.push_str(if remedy.is_empty() { "" } else { "<br>" });
+    push_html(out, remedy);
     out.push_str("</em>")
 }
 
 /// Adds what is told of comments in the line of this number that name columns as the program has none.
-fn push_misnamed(
-    out: &mut String,
-    text: &[u8],
-    told: &Told,
-    line: usize,
-) -> Result<(), AllocError> {
+fn push_misnamed(out: &mut Prose, text: &[u8], told: &Told, line: usize) {
     for fault in &told.misnamed {
         if fault.place(text).line == line {
-            push_note(out, fault.message.as_str(), "")?;
+            push_note(out, fault.message.as_str(), "");
         }
     }
-    Ok(())
 }
 
 /// Adds what is told of the line of this number.
-fn push_notes(out: &mut String, text: &[u8], told: &Told, line: usize) -> Result<(), AllocError> {
+fn push_notes(out: &mut Prose, text: &[u8], told: &Told, line: usize) {
     for note in &told.notes {
         if note.place(text).line == line {
-            push_note(out, note.message.as_str(), note.remedy.as_str())?;
+            push_note(out, note.message.as_str(), note.remedy.as_str());
         }
     }
     push_misnamed(out, text, told, line)
@@ -100,42 +95,38 @@ fn push_notes(out: &mut String, text: &[u8], told: &Told, line: usize) -> Result
 
 /// Adds the text with marks at these places. Each line is an element, so that it gets its number, and has what is told
 /// of it below. A mark ends with its line, and begins again with the next one.
-fn push_marked(
-    out: &mut String,
-    text: &[u8],
-    spans: &[Span],
-    told: &Told,
-) -> Result<(), AllocError> {
+fn push_marked(out: &mut Prose, text: &[u8], spans: &[Span], told: &Told) {
     let mut was_in = false;
     let mut line: usize = 1;
     for (at, byte) in text.iter().enumerate() {
         let is_in = *byte != b'\n' && is_marked(spans, at);
-        push_turn(out, was_in, is_in)?;
+        push_turn(out, was_in, is_in);
         if *byte == b'\n' {
-            out.push_str("</span>\n")?;
-            push_notes(out, text, told, line)?;
-            out.push_str("<span class=\"line\">")?;
+            out.push_str("</span>\n");
+            push_notes(out, text, told, line);
+            out.push_str("<span class=\"line\">");
             line = line.saturating_add(1);
         } else {
-            push_html_char(out, shown(*byte))?;
+            push_html_char(out, shown(*byte));
         }
         was_in = is_in;
     }
-    push_turn(out, was_in, false)?;
+    push_turn(out, was_in, false);
     push_notes(out, text, told, line)
 }
 
 /// Adds the text of a program with marks at its faulty places, and below each line what is told of it.
 pub(crate) fn push_listing(
     alloc: Global,
-    out: &mut String,
+    out: &mut Prose,
     text: &[u8],
     diagnosis: &Diagnosis,
     told: &Told,
 ) -> Result<(), AllocError> {
     let spans = spans_of(alloc, text, diagnosis)?;
-    out.push_str("<section>\n<h2>The program</h2>\n")?;
-    out.push_str("<pre class=\"listing\" tabindex=\"0\"><span class=\"line\">")?;
-    push_marked(out, text, &spans, told)?;
-    out.push_str("</span></pre>\n</section>\n")
+    out.push_str("<section>\n<h2>The program</h2>\n");
+    out.push_str("<pre class=\"listing\" tabindex=\"0\"><span class=\"line\">");
+    push_marked(out, text, &spans, told);
+    out.push_str("</span></pre>\n</section>\n");
+    Ok(())
 }

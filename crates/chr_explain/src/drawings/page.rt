@@ -9,9 +9,10 @@ use crate::drawings::graphs::graph_of;
 use crate::drawings::html::{push_first_line, push_html};
 use crate::drawings::listing::push_listing;
 use crate::drawings::style::STYLE;
+use crate::prose::Prose;
 use crate::sentences::Told;
 use chr_diagnosis::{Diagnosis, Peak, Proposal};
-use chr_faults::{Names, TextFaults, push_number};
+use chr_faults::{Names, TextFaults};
 use chr_read::Fault;
 use std::alloc::{AllocError, Global};
 
@@ -27,9 +28,9 @@ fn first_fault(faults: &TextFaults) -> usize {
 }
 
 /// Adds the verdict in a word or two.
-fn push_verdict(out: &mut String, diagnosis: &Diagnosis) -> Result<(), AllocError> {
+fn push_verdict(out: &mut Prose, diagnosis: &Diagnosis) {
     match diagnosis {
-        Diagnosis::Text(faults) => push_number(out, "refused ", first_fault(faults) as u64, ""),
+        Diagnosis::Text(faults) => out.push_number("refused ", first_fault(faults) as u64, ""),
         Diagnosis::NotLowered(_) => out.push_str("refused 20"),
         Diagnosis::Fails(_) => out.push_str("refused 21"),
         Diagnosis::TooManyCombinations(_) => out.push_str("refused 22"),
@@ -59,17 +60,17 @@ fn meaning_of(diagnosis: &Diagnosis) -> &'static str {
 }
 
 /// Adds what stands before the program: the verdict, the style, the first line of what is told, and what it means.
-fn push_head(out: &mut String, diagnosis: &Diagnosis, told: &str) -> Result<(), AllocError> {
-    out.push_str("<!DOCTYPE html>\n<html lang=\"en\">\n<head>\n<meta charset=\"utf-8\">\n")?;
-    out.push_str("<meta name=\"viewport\" content=\"width=device-width, initial-scale=1\">\n")?;
-    out.push_str("<title>chrrep: ")?;
-    push_verdict(out, diagnosis)?;
-    out.push_str("</title>\n")?;
-    out.push_str(STYLE)?;
-    out.push_str("</head>\n<body>\n<header>\n<h1>")?;
-    push_first_line(out, told)?;
-    out.push_str("</h1>\n<p>")?;
-    push_html(out, meaning_of(diagnosis))?;
+fn push_head(out: &mut Prose, diagnosis: &Diagnosis, told: &str) {
+    out.push_str("<!DOCTYPE html>\n<html lang=\"en\">\n<head>\n<meta charset=\"utf-8\">\n");
+    out.push_str("<meta name=\"viewport\" content=\"width=device-width, initial-scale=1\">\n");
+    out.push_str("<title>chrrep: ");
+    push_verdict(out, diagnosis);
+    out.push_str("</title>\n");
+    out.push_str(STYLE);
+    out.push_str("</head>\n<body>\n<header>\n<h1>");
+    push_first_line(out, told);
+    out.push_str("</h1>\n<p>");
+    push_html(out, meaning_of(diagnosis));
     out.push_str("</p>\n</header>\n<main>\n")
 }
 
@@ -86,18 +87,19 @@ fn caption_of(meaning: Meaning) -> &'static str {
 }
 
 /// Adds a drawing of nodes and edges.
-fn push_graph_figure(alloc: Global, out: &mut String, graph: &Graph) -> Result<(), AllocError> {
-    out.push_str("<section>\n<h2>Drawing</h2>\n<figure>\n")?;
+fn push_graph_figure(alloc: Global, out: &mut Prose, graph: &Graph) -> Result<(), AllocError> {
+    out.push_str("<section>\n<h2>Drawing</h2>\n<figure>\n");
     push_graph_svg(alloc, out, graph)?;
-    out.push_str("<figcaption>")?;
-    push_html(out, caption_of(graph.meaning))?;
-    out.push_str("</figcaption>\n</figure>\n</section>\n")
+    out.push_str("<figcaption>");
+    push_html(out, caption_of(graph.meaning));
+    out.push_str("</figcaption>\n</figure>\n</section>\n");
+    Ok(())
 }
 
 /// Adds both ways of a case that fails, and what would be right.
 fn push_peak(
     alloc: Global,
-    out: &mut String,
+    out: &mut Prose,
     text: &[u8],
     peak: &Peak,
     proposals: &[Proposal],
@@ -105,14 +107,14 @@ fn push_peak(
 ) -> Result<(), AllocError> {
     let names = Names::of(alloc, text, peak.weighed.program())?;
     let ways = cards_of(alloc, &names, peak)?;
-    push_case(out, &ways)?;
+    push_case(out, &ways);
     push_changes(alloc, out, text, proposals, told)
 }
 
 /// Adds what is drawn of the text, where something is.
 fn push_pictures(
     alloc: Global,
-    out: &mut String,
+    out: &mut Prose,
     text: &[u8],
     diagnosis: &Diagnosis,
 ) -> Result<(), AllocError> {
@@ -126,16 +128,16 @@ fn push_pictures(
 }
 
 /// Adds all that is told, in words.
-fn push_words(out: &mut String, told: &str) -> Result<(), AllocError> {
-    out.push_str("<section>\n<h2>In words</h2>\n<pre class=\"told\" tabindex=\"0\">")?;
-    push_html(out, told)?;
+fn push_words(out: &mut Prose, told: &str) {
+    out.push_str("<section>\n<h2>In words</h2>\n<pre class=\"told\" tabindex=\"0\">");
+    push_html(out, told);
     out.push_str("</pre>\n</section>\n")
 }
 
 /// Adds the same, to be opened: the page has shown it.
-fn push_shut_words(out: &mut String, told: &str) -> Result<(), AllocError> {
-    out.push_str("<details>\n<summary>As text</summary>\n<pre class=\"told\" tabindex=\"0\">")?;
-    push_html(out, told)?;
+fn push_shut_words(out: &mut Prose, told: &str) {
+    out.push_str("<details>\n<summary>As text</summary>\n<pre class=\"told\" tabindex=\"0\">");
+    push_html(out, told);
     out.push_str("</pre>\n</details>\n")
 }
 
@@ -148,20 +150,20 @@ pub(crate) fn page_text(
     told: &Told,
 ) -> Result<String, AllocError> {
     let words = told.text.as_str();
-    let mut out = String::new(alloc);
-    push_head(&mut out, diagnosis, words)?;
+    let mut out = Prose::new(alloc);
+    push_head(&mut out, diagnosis, words);
     push_listing(alloc, &mut out, text, diagnosis, told)?;
     match diagnosis {
-        Diagnosis::Text(_) => push_shut_words(&mut out, words)?,
+        Diagnosis::Text(_) => push_shut_words(&mut out, words),
         Diagnosis::Fails(peak) => {
             push_peak(alloc, &mut out, text, peak, proposals, told)?;
-            push_shut_words(&mut out, words)?;
+            push_shut_words(&mut out, words);
         }
         _ => {
-            push_words(&mut out, words)?;
+            push_words(&mut out, words);
             push_pictures(alloc, &mut out, text, diagnosis)?;
         }
     }
-    out.push_str("</main>\n</body>\n</html>\n")?;
-    Ok(out)
+    out.push_str("</main>\n</body>\n</html>\n");
+    out.finish()
 }

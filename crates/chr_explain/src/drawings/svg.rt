@@ -2,8 +2,7 @@
 
 use crate::drawings::html::{push_html, push_html_char};
 use crate::drawings::limits::MAX_SVG_CHARACTERS;
-use chr_faults::push_number;
-use std::alloc::AllocError;
+use crate::prose::Prose;
 
 /// How wide a character is.
 pub(crate) const CHARACTER: usize = 8;
@@ -26,30 +25,21 @@ pub(crate) fn width_of(text: &str) -> usize {
     text.chars().take(most).count().saturating_mul(CHARACTER)
 }
 
-/// Adds the beginning of a drawing of this size, with what it is for those who don't see it.
-pub(crate) fn push_svg(
-    out: &mut String,
-    width: usize,
-    height: usize,
-    label: &str,
-) -> Result<(), AllocError> {
-    push_number(out, "<svg viewBox=\"0 0 ", width as u64, " ")?;
-    push_number(out, "", height as u64, "\"")?;
-    push_number(out, " width=\"", width as u64, "\"")?;
-    push_number(
-        out,
-        " height=\"",
-        height as u64,
-        "\" role=\"img\" aria-label=\"",
-    )?;
-    push_html(out, label)?;
+/// Adds the beginning of a drawing of this size, with what it is for those who don't see it: so many of these.
+pub(crate) fn push_svg(out: &mut Prose, width: usize, height: usize, count: usize, subject: &str) {
+    out.push_number("<svg viewBox=\"0 0 ", width as u64, " ");
+    out.push_number("", height as u64, "\"");
+    out.push_number(" width=\"", width as u64, "\"");
+    out.push_number(" height=\"", height as u64, "\" role=\"img\" aria-label=\"");
+    out.push_number("", count as u64, " ");
+    push_html(out, subject);
     out.push_str("\">\n")
 }
 
 /// Adds the first characters of a text.
-fn push_cut(out: &mut String, text: &str) -> Result<(), AllocError> {
+fn push_cut(out: &mut Prose, text: &str) {
     for c in text.chars().take(MAX_SVG_CHARACTERS) {
-        push_html_char(out, c)?;
+        push_html_char(out, c);
     }
     out.push_str(if MAX_SVG_CHARACTERS < text.chars().count() {
         ".."
@@ -59,30 +49,24 @@ fn push_cut(out: &mut String, text: &str) -> Result<(), AllocError> {
 }
 
 /// Adds a text, from this place on. Where it is cut, all of it is the title.
-pub(crate) fn push_svg_text(
-    out: &mut String,
-    x: usize,
-    y: usize,
-    class: &str,
-    text: &str,
-) -> Result<(), AllocError> {
-    push_number(out, "<text x=\"", x as u64, "\"")?;
-    push_number(out, " y=\"", y as u64, "\" class=\"")?;
-    out.push_str(class)?;
-    out.push_str("\">")?;
-    push_cut(out, text)?;
+pub(crate) fn push_svg_text(out: &mut Prose, x: usize, y: usize, class: &str, text: &str) {
+    out.push_number("<text x=\"", x as u64, "\"");
+    out.push_number(" y=\"", y as u64, "\" class=\"");
+    out.push_str(class);
+    out.push_str("\">");
+    push_cut(out, text);
     if MAX_SVG_CHARACTERS < text.chars().count() {
-        out.push_str("<title>")?;
-        push_html(out, text)?;
-        out.push_str("</title>")?;
+        out.push_str("<title>");
+        push_html(out, text);
+        out.push_str("</title>");
     }
     out.push_str("</text>\n")
 }
 
 /// Adds a line round a box.
-pub(crate) fn push_frame(out: &mut String, frame: Frame) -> Result<(), AllocError> {
-    push_number(out, "<rect class=\"box\" x=\"", frame.x as u64, "\"")?;
-    push_number(out, " y=\"", frame.y as u64, "\"")?;
-    push_number(out, " width=\"", frame.width as u64, "\"")?;
-    push_number(out, " height=\"", frame.height as u64, "\" rx=\"3\"/>\n")
+pub(crate) fn push_frame(out: &mut Prose, frame: Frame) {
+    out.push_number("<rect class=\"box\" x=\"", frame.x as u64, "\"");
+    out.push_number(" y=\"", frame.y as u64, "\"");
+    out.push_number(" width=\"", frame.width as u64, "\"");
+    out.push_number(" height=\"", frame.height as u64, "\" rx=\"3\"/>\n")
 }

@@ -1,10 +1,11 @@
 //! Which facts of an accepted program stay side by side, as text.
 
+use crate::prose::Prose;
 use crate::sentences::keys::{Key, key_of};
 use crate::sentences::symbol_text::push_symbol;
 use chr_base::atom::SymbolId;
 use chr_diagnosis::{NamedProgram, Pair, pairs_beside, staying_pair};
-use chr_faults::{ColumnNames, Names, columns_of, push_number};
+use chr_faults::{ColumnNames, Names, columns_of};
 use chr_weights::Weighed;
 use std::alloc::{AllocError, Global};
 
@@ -27,23 +28,24 @@ impl<'a> Facts<'a> {
 }
 
 /// Adds the symbol that a line tells of.
-fn push_line_start(out: &mut String, facts: Facts<'_>) -> Result<(), AllocError> {
-    out.push_str("  ")?;
-    push_symbol(out, facts.source.program, facts.symbol)?;
+fn push_line_start(out: &mut Prose, facts: Facts<'_>) {
+    out.push_str("  ");
+    push_symbol(out, facts.source.program, facts.symbol);
     out.push_str(": ")
 }
 
 /// Adds the facts of a pair as an example, and ends the line.
 fn push_example(
     alloc: Global,
-    out: &mut String,
+    out: &mut Prose,
     facts: Facts<'_>,
     pair: &Pair,
 ) -> Result<(), AllocError> {
-    out.push_str(", as ")?;
+    out.push_str(", as ");
     let store = pair.store(alloc)?;
-    facts.source.push_store(alloc, out, &store)?;
-    out.push_str("\n")
+    out.push_store(alloc, facts.source, &store);
+    out.push_str("\n");
+    Ok(())
 }
 
 /// What stands before one of so many names, of which some have been told.
@@ -58,25 +60,20 @@ fn before_name(told: usize, count: usize) -> &'static str {
 }
 
 /// Adds the names of these columns.
-fn push_names(out: &mut String, columns: &[bool], names: &ColumnNames) -> Result<(), AllocError> {
+fn push_names(out: &mut Prose, columns: &[bool], names: &ColumnNames) {
     let count = columns.iter().filter(|chosen| **chosen).count();
     let mut told = 0;
     for (column, chosen) in columns.iter().enumerate() {
         if *chosen {
-            out.push_str(before_name(told, count))?;
-            out.push_str(names.name(column).unwrap_or("_"))?;
+            out.push_str(before_name(told, count));
+            out.push_str(names.name(column).unwrap_or("_"));
             told = usize::saturating_add(told, 1);
         }
     }
-    Ok(())
 }
 
 /// Adds these columns, by their names or counted from 1.
-fn push_columns(
-    out: &mut String,
-    columns: &[bool],
-    names: Option<&ColumnNames>,
-) -> Result<(), AllocError> {
+fn push_columns(out: &mut Prose, columns: &[bool], names: Option<&ColumnNames>) {
     match names {
         Some(names) => push_names(out, columns, names),
         None => push_numbers(out, columns),
@@ -84,16 +81,15 @@ fn push_columns(
 }
 
 /// Adds these columns, counted from 1.
-fn push_numbers(out: &mut String, columns: &[bool]) -> Result<(), AllocError> {
+fn push_numbers(out: &mut Prose, columns: &[bool]) {
     let count = columns.iter().filter(|chosen| **chosen).count();
     let mut before = if count == 1 { "column " } else { "columns " };
     for (column, chosen) in columns.iter().enumerate() {
         if *chosen {
-            push_number(out, before, usize::saturating_add(column, 1) as u64, "")?;
+            out.push_number(before, usize::saturating_add(column, 1) as u64, "");
             before = ", ";
         }
     }
-    Ok(())
 }
 
 /// The set of columns whose number this is: column 1 counts 1, column 2 counts 2, column 3 counts 4, and so on.
@@ -124,19 +120,22 @@ fn is_part(part: &[bool], columns: &[bool]) -> bool {
 /// Tells whether a fact of the symbol that is told twice may stay twice.
 fn push_twice(
     alloc: Global,
-    out: &mut String,
+    out: &mut Prose,
     facts: Facts<'_>,
     arity: usize,
     pairs: &[Pair],
 ) -> Result<(), AllocError> {
     let none = set_of(alloc, arity, 0)?;
-    push_line_start(out, facts)?;
+    push_line_start(out, facts);
     match staying_pair(pairs, &none) {
         Some(pair) => {
-            out.push_str("a fact that is told twice may stay twice")?;
+            out.push_str("a fact that is told twice may stay twice");
             push_example(alloc, out, facts, pair)
         }
-        None => out.push_str("a fact that is told twice never stays twice\n"),
+        None => {
+            out.push_str("a fact that is told twice never stays twice\n");
+            Ok(())
+        }
     }
 }
 
@@ -170,18 +169,17 @@ fn apart_pairs<'a>(
 }
 
 /// Adds in which columns two facts agree, where there are some.
-fn push_same(out: &mut String, key: &Key, names: Option<&ColumnNames>) -> Result<(), AllocError> {
+fn push_same(out: &mut Prose, key: &Key, names: Option<&ColumnNames>) {
     if key.columns.iter().any(|same| *same) {
-        out.push_str(" with the same ")?;
-        push_columns(out, &key.columns, names)?;
+        out.push_str(" with the same ");
+        push_columns(out, &key.columns, names);
     }
-    Ok(())
 }
 
 /// Tells which two different facts of the symbol may stay that agree in the key.
 fn push_apart(
     alloc: Global,
-    out: &mut String,
+    out: &mut Prose,
     facts: Facts<'_>,
     key: &Key,
     pairs: &[Pair],
@@ -189,17 +187,18 @@ fn push_apart(
     let names = facts.columns();
     let found = apart_pairs(alloc, key, pairs)?;
     if found.is_empty() {
-        push_line_start(out, facts)?;
-        out.push_str("no two")?;
-        push_same(out, key, names)?;
-        return out.push_str(" stay\n");
+        push_line_start(out, facts);
+        out.push_str("no two");
+        push_same(out, key, names);
+        out.push_str(" stay\n");
+        return Ok(());
     }
     for pair in found {
-        push_line_start(out, facts)?;
-        out.push_str("two")?;
-        push_same(out, key, names)?;
-        out.push_str(" may stay that differ in ")?;
-        push_columns(out, &pair.apart, names)?;
+        push_line_start(out, facts);
+        out.push_str("two");
+        push_same(out, key, names);
+        out.push_str(" may stay that differ in ");
+        push_columns(out, &pair.apart, names);
         push_example(alloc, out, facts, pair)?;
     }
     Ok(())
@@ -208,7 +207,7 @@ fn push_apart(
 /// Tells which facts of one symbol may stay side by side.
 fn push_symbol_beside(
     alloc: Global,
-    out: &mut String,
+    out: &mut Prose,
     weighed: &Weighed,
     facts: Facts<'_>,
 ) -> Result<(), AllocError> {
@@ -224,14 +223,14 @@ fn push_symbol_beside(
 /// Tells for each symbol of a program which facts may stay side by side.
 pub(crate) fn push_beside(
     alloc: Global,
-    out: &mut String,
+    out: &mut Prose,
     names: &Names,
     weighed: &Weighed,
 ) -> Result<(), AllocError> {
     let program = weighed.program();
     let source = NamedProgram { program, names };
     let symbols = program.symbols();
-    out.push_str(if symbols == 0 { "" } else { SEARCHED })?;
+    out.push_str(if symbols == 0 { "" } else { SEARCHED });
     for number in 0..symbols {
         let symbol = SymbolId(u16::try_from(number).unwrap_or(u16::MAX));
         push_symbol_beside(alloc, out, weighed, Facts { source, symbol })?;

@@ -1,5 +1,6 @@
 //! An overlap with too many cases, as text.
 
+use crate::prose::Prose;
 use crate::sentences::overlap_text::{ToldOverlap, told_overlap};
 use crate::sentences::symbol_text::push_symbol;
 use chr_base::atom::SymbolId;
@@ -7,14 +8,14 @@ use chr_base::limits::MAX_ARITY;
 use chr_base::program::Program;
 use chr_base::rule::Rule;
 use chr_diagnosis::{NamedProgram, Throng};
-use chr_faults::{Names, columns_of, push_number, push_text};
+use chr_faults::{Names, columns_of};
 use chr_sorting::{Kind, Sorting, finest_sorts};
 use std::alloc::{AllocError, Global};
 
 /// Tells of an overlap with too many combinations of values: its rules, and which columns are compared.
 pub(crate) fn push_throng(
     alloc: Global,
-    out: &mut String,
+    out: &mut Prose,
     names: &Names,
     throng: &Throng,
 ) -> Result<(), AllocError> {
@@ -24,10 +25,11 @@ pub(crate) fn push_throng(
     let Some(told) = told_overlap(source, overlap) else {
         return Ok(());
     };
-    told.push_rules(alloc, out)?;
-    told.push_matched(alloc, out)?;
+    told.push_rules(alloc, out);
+    told.push_matched(alloc, out);
     push_compared(alloc, out, source, told)?;
-    out.push_str("Compare fewer of these columns, or compare them in fewer heads.\n")
+    out.push_str("Compare fewer of these columns, or compare them in fewer heads.\n");
+    Ok(())
 }
 
 /// Whether a symbol stands in a head of the rule.
@@ -43,13 +45,13 @@ pub(crate) fn has_head(rule: &Rule, symbol: SymbolId) -> bool {
 /// Adds which columns of the overlap's heads are compared, a line for each symbol.
 fn push_compared(
     alloc: Global,
-    out: &mut String,
+    out: &mut Prose,
     source: NamedProgram<'_>,
     told: ToldOverlap<'_>,
 ) -> Result<(), AllocError> {
     let program = source.program;
     let sorting = finest_sorts(alloc, program)?;
-    out.push_str("Columns of its heads that rules compare:\n")?;
+    out.push_str("Columns of its heads that rules compare:\n");
     for number in 0..program.symbols() {
         let symbol = SymbolId(u16::try_from(number).unwrap_or(u16::MAX));
         if has_head(told.first.rule, symbol) || has_head(told.second.rule, symbol) {
@@ -66,25 +68,25 @@ pub(crate) fn columns_text(
     sorting: &Sorting,
     symbol: SymbolId,
 ) -> Result<String, AllocError> {
-    let mut columns = String::new(alloc);
-    push_kind(&mut columns, source, sorting, symbol, Kind::Ordered)?;
-    push_kind(&mut columns, source, sorting, symbol, Kind::Equal)?;
-    Ok(columns)
+    let mut columns = Prose::new(alloc);
+    push_kind(&mut columns, source, sorting, symbol, Kind::Ordered);
+    push_kind(&mut columns, source, sorting, symbol, Kind::Equal);
+    columns.finish()
 }
 
 /// Adds a line with the columns of a symbol that are compared, where there are some.
 fn push_columns(
     alloc: Global,
-    out: &mut String,
+    out: &mut Prose,
     source: NamedProgram<'_>,
     sorting: &Sorting,
     symbol: SymbolId,
 ) -> Result<(), AllocError> {
     let columns = columns_text(alloc, source, sorting, symbol)?;
     if let Some(columns) = columns.as_str().strip_prefix("; ") {
-        out.push_str("  ")?;
-        push_symbol(out, source.program, symbol)?;
-        push_text(out, ": ", columns, "\n")?;
+        out.push_str("  ");
+        push_symbol(out, source.program, symbol);
+        out.push_text(": ", columns, "\n");
     }
     Ok(())
 }
@@ -96,14 +98,14 @@ fn column_name<'a>(source: NamedProgram<'a>, symbol: SymbolId, column: usize) ->
 
 /// Adds the name of a column, or its number, counted from 1.
 pub(crate) fn push_column(
-    out: &mut String,
+    out: &mut Prose,
     source: NamedProgram<'_>,
     symbol: SymbolId,
     column: usize,
-) -> Result<(), AllocError> {
+) {
     match column_name(source, symbol, column) {
         Some(name) => out.push_str(name),
-        None => push_number(out, "", usize::saturating_add(column, 1) as u64, ""),
+        None => out.push_number("", usize::saturating_add(column, 1) as u64, ""),
     }
 }
 
@@ -118,12 +120,12 @@ fn arity_of(program: &Program, symbol: SymbolId) -> usize {
 
 /// Adds which columns of a symbol are compared like this.
 fn push_kind(
-    out: &mut String,
+    out: &mut Prose,
     source: NamedProgram<'_>,
     sorting: &Sorting,
     symbol: SymbolId,
     kind: Kind,
-) -> Result<(), AllocError> {
+) {
     let mut before = if kind == Kind::Ordered {
         "; by order "
     } else {
@@ -131,10 +133,9 @@ fn push_kind(
     };
     for argument in 0..arity_of(source.program, symbol).min(MAX_ARITY) {
         if sorting.kind(sorting.sort(symbol, argument)) == kind {
-            out.push_str(before)?;
-            push_column(out, source, symbol, argument)?;
+            out.push_str(before);
+            push_column(out, source, symbol, argument);
             before = ", ";
         }
     }
-    Ok(())
 }

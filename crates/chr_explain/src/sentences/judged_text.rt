@@ -1,8 +1,8 @@
 //! By which cases a program was judged, as text.
 
+use crate::prose::Prose;
 use chr_diagnosis::{Diagnosis, Judged};
 use chr_join::Coverage;
-use std::alloc::AllocError;
 
 /// What stands behind a verdict's first words: the option by which a check has the same verdict.
 pub(crate) fn by_option(coverage: Coverage) -> &'static str {
@@ -13,9 +13,9 @@ pub(crate) fn by_option(coverage: Coverage) -> &'static str {
 }
 
 /// Tells that there were too many joint cases, where that is why the sorted ones were looked at, and what to do.
-pub(crate) fn push_judged(out: &mut String, judged: &Judged) -> Result<(), AllocError> {
+pub(crate) fn push_judged(out: &mut Prose, judged: &Judged) {
     if judged.crowd.is_none() {
-        return Ok(());
+        return;
     }
     out.push_str(match judged.diagnosis {
         Diagnosis::TooManyCombinations(_) => "Without --wide there are too many cases too.\n",

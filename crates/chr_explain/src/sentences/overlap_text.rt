@@ -1,10 +1,10 @@
 //! Overlaps of two rules as they are told.
 
+use crate::prose::Prose;
 use chr_base::rule::Rule;
 use chr_diagnosis::{NamedProgram, ToldRule, told_rule};
-use chr_faults::push_number;
 use chr_overlaps::Overlap;
-use std::alloc::{AllocError, Global};
+use std::alloc::Global;
 
 /// An overlap with its two rules.
 #[derive(Clone, Copy)]
@@ -65,40 +65,33 @@ impl ToldOverlap<'_> {
     }
 
     /// Adds both rules, each in its line.
-    pub(crate) fn push_rules(&self, alloc: Global, out: &mut String) -> Result<(), AllocError> {
-        push_number(out, "  rule ", self.first.number as u64, ": ")?;
-        self.first.push_clause(alloc, out)?;
-        push_number(out, "\n  rule ", self.second.number as u64, self.again())?;
-        out.push_str(": ")?;
-        self.second.push_clause(alloc, out)?;
+    pub(crate) fn push_rules(&self, alloc: Global, out: &mut Prose) {
+        out.push_number("  rule ", self.first.number as u64, ": ");
+        out.push_clause(alloc, self.first);
+        out.push_number("\n  rule ", self.second.number as u64, self.again());
+        out.push_str(": ");
+        out.push_clause(alloc, self.second);
         out.push_str("\n")
     }
 
     /// Adds which heads are matched, each in its line.
-    pub(crate) fn push_matched(&self, alloc: Global, out: &mut String) -> Result<(), AllocError> {
-        out.push_str("One fact is matched by two heads:\n")?;
+    pub(crate) fn push_matched(&self, alloc: Global, out: &mut Prose) {
+        out.push_str("One fact is matched by two heads:\n");
         for (place, entry) in self.overlap.matching.iter().enumerate() {
             if *entry != 0 {
                 let first = usize::saturating_add(place, 1);
-                self.push_heads(alloc, out, first, usize::from(*entry))?;
+                self.push_heads(alloc, out, first, usize::from(*entry));
             }
         }
-        Ok(())
     }
 
     /// Adds these heads of the two rules.
-    fn push_heads(
-        &self,
-        alloc: Global,
-        out: &mut String,
-        first: usize,
-        second: usize,
-    ) -> Result<(), AllocError> {
-        out.push_str("  ")?;
-        self.first.push_head(alloc, out, first)?;
-        push_number(out, " of rule ", self.first.number as u64, " and ")?;
-        self.second.push_head(alloc, out, second)?;
-        push_number(out, " of rule ", self.second.number as u64, self.again())?;
+    fn push_heads(&self, alloc: Global, out: &mut Prose, first: usize, second: usize) {
+        out.push_str("  ");
+        out.push_head(alloc, self.first, first);
+        out.push_number(" of rule ", self.first.number as u64, " and ");
+        out.push_head(alloc, self.second, second);
+        out.push_number(" of rule ", self.second.number as u64, self.again());
         out.push_str("\n")
     }
 }

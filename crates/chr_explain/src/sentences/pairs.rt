@@ -1,7 +1,7 @@
 //! Overlaps summed over pairs of rules.
 
+use crate::prose::Prose;
 use chr_diagnosis::Counted;
-use chr_faults::push_number;
 use chr_join::Coverage;
 use std::alloc::{AllocError, Global};
 
@@ -67,14 +67,10 @@ pub(crate) fn pairs_of(alloc: Global, counts: &[Counted]) -> Result<Vec<ToldPair
 }
 
 /// Adds the numbers of a pair: that of its cases where joint ones were looked at, since sorted ones are not counted.
-pub(crate) fn push_numbers(
-    out: &mut String,
-    pair: &ToldPair,
-    coverage: Coverage,
-) -> Result<(), AllocError> {
-    push_number(out, "overlaps ", pair.overlaps as u64, "")?;
+pub(crate) fn push_numbers(out: &mut Prose, pair: &ToldPair, coverage: Coverage) {
+    out.push_number("overlaps ", pair.overlaps as u64, "");
     match coverage {
-        Coverage::Joint => push_number(out, ", cases ", pair.cases as u64, ""),
-        Coverage::Sorted => Ok(()),
+        Coverage::Joint => out.push_number(", cases ", pair.cases as u64, ""),
+        Coverage::Sorted => {}
     }
 }

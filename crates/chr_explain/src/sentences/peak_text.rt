@@ -1,12 +1,12 @@
 //! A case that fails, as text.
 
+use crate::prose::Prose;
 use crate::sentences::overlap_text::{ToldOverlap, told_overlap};
 use chr_base::bag::Bag;
 use chr_base::derivation::{Derivation, Step};
 use chr_base::program::Program;
-use chr_base::text::push_store;
 use chr_diagnosis::{NamedProgram, Peak, Proposal, Ways, told_rule};
-use chr_faults::{Names, push_number, push_text};
+use chr_faults::Names;
 use chr_join::Failure;
 use chr_overlaps::Overlap;
 use std::alloc::{AllocError, Global};
@@ -23,74 +23,65 @@ const COMPETITION: &str =
 const NO_CHANGE: &str = "No change of one rule was found with which the program is accepted.";
 
 /// Adds what a step does, and the store that it leaves.
-fn push_step(
-    alloc: Global,
-    out: &mut String,
-    source: NamedProgram<'_>,
-    step: &Step,
-    store: &Bag,
-) -> Result<(), AllocError> {
+fn push_step(alloc: Global, out: &mut Prose, source: NamedProgram<'_>, step: &Step, store: &Bag) {
     if let Some(rule) = told_rule(source, step.rule as usize) {
-        rule.push_step(out, &step.heads)?;
+        out.push_step(rule, &step.heads);
     }
-    out.push_str(", and leaves ")?;
-    source.push_store(alloc, out, store)?;
+    out.push_str(", and leaves ");
+    out.push_store(alloc, source, store);
     out.push_str("\n")
 }
 
 /// Adds the steps of one side, a line for each, and its end.
 fn push_side(
     alloc: Global,
-    out: &mut String,
+    out: &mut Prose,
     source: NamedProgram<'_>,
     side: &Derivation,
     stores: &[Bag],
     end: &Bag,
-) -> Result<(), AllocError> {
+) {
     for (i, (step, store)) in side.steps.iter().zip(stores.iter()).enumerate() {
-        push_number(out, "  ", usize::saturating_add(i, 1) as u64, ". ")?;
-        push_step(alloc, out, source, step, store)?;
+        out.push_number("  ", usize::saturating_add(i, 1) as u64, ". ");
+        push_step(alloc, out, source, step, store);
     }
     let more = side.steps.len().saturating_sub(stores.len());
     if 0 < more {
-        push_number(out, "  and ", more as u64, " steps more\n")?;
+        out.push_number("  and ", more as u64, " steps more\n");
     }
-    out.push_str("  end: ")?;
-    source.push_store(alloc, out, end)?;
+    out.push_str("  end: ");
+    out.push_store(alloc, source, end);
     out.push_str("\n")
 }
 
+/// Adds values behind commas, where there are some.
+fn push_listed(out: &mut Prose, values: Prose) {
+    match values.finish() {
+        Ok(values) => if let Some(values) = values.as_str().strip_prefix(", ") {
+            out.push_text("Values with which they disagree: ", values, "\n");
+        },
+        Err(_) => out.lose(),
+    }
+}
+
 /// Adds the values of the variables of both rules, where they have some.
-fn push_values(
-    alloc: Global,
-    out: &mut String,
-    told: ToldOverlap<'_>,
-    failure: &Failure,
-) -> Result<(), AllocError> {
-    let mut values = String::new(alloc);
+fn push_values(alloc: Global, out: &mut Prose, told: ToldOverlap<'_>, failure: &Failure) {
+    let mut values = Prose::new(alloc);
     if let Some(step) = failure.left.steps.first() {
-        told.first.push_values(&mut values, &step.heads)?;
+        values.push_values(told.first, &step.heads);
     }
     if let Some(step) = failure.right.steps.first() {
-        told.second.push_values(&mut values, &step.heads)?;
+        values.push_values(told.second, &step.heads);
     }
-    if let Some(values) = values.as_str().strip_prefix(", ") {
-        push_text(out, "Values with which they disagree: ", values, "\n")?;
-    }
-    Ok(())
+    push_listed(out, values);
 }
 
 /// Adds the store of a case that fails, and both ways from it.
-fn push_ways(
-    alloc: Global,
-    out: &mut String,
-    source: NamedProgram<'_>,
-    ways: &Ways,
-) -> Result<(), AllocError> {
+fn push_ways(alloc: Global, out: &mut Prose, source: NamedProgram<'_>, ways: &Ways) {
     let failure = &ways.failure;
-    out.push_str("The store: ")?;
-    source.push_store(alloc, out, &failure.left.start)?;
-    out.push_str("\nOne way:\n")?;
+    out.push_str("The store: ");
+    out.push_store(alloc, source, &failure.left.start);
+    out.push_str("\nOne way:\n");
     push_side(
         alloc,
         out,
@@ -98,8 +89,8 @@ fn push_ways(
         &failure.left,
         &ways.left,
         &failure.left_end,
-    )?;
-    out.push_str("The other way:\n")?;
+    );
+    out.push_str("The other way:\n");
     push_side(
         alloc,
         out,
@@ -113,61 +104,51 @@ fn push_ways(
 /// Adds the rules of a case that fails, and both ways of it.
 fn push_case(
     alloc: Global,
-    out: &mut String,
+    out: &mut Prose,
     told: ToldOverlap<'_>,
     source: NamedProgram<'_>,
     ways: &Ways,
-) -> Result<(), AllocError> {
-    told.push_rules(alloc, out)?;
-    told.push_matched(alloc, out)?;
-    push_values(alloc, out, told, &ways.failure)?;
+) {
+    told.push_rules(alloc, out);
+    told.push_matched(alloc, out);
+    push_values(alloc, out, told, &ways.failure);
     push_ways(alloc, out, source, ways)
 }
 
 /// Adds an overlap as a check writes it.
-fn push_overlap(out: &mut String, overlap: &Overlap) -> Result<(), AllocError> {
-    push_number(out, "  rules ", u64::from(overlap.first), " ")?;
-    push_number(out, "", u64::from(overlap.second), "; matching (")?;
+fn push_overlap(out: &mut Prose, overlap: &Overlap) {
+    out.push_number("  rules ", u64::from(overlap.first), " ");
+    out.push_number("", u64::from(overlap.second), "; matching (");
     for (place, entry) in overlap.matching.iter().enumerate() {
         let before = if place == 0 { "" } else { "," };
-        push_number(out, before, u64::from(*entry), "")?;
+        out.push_number(before, u64::from(*entry), "");
     }
     out.push_str(")")
 }
 
 /// Adds what a check writes of the first case that fails.
-fn push_first(
-    alloc: Global,
-    out: &mut String,
-    program: &Program,
-    failure: &Failure,
-) -> Result<(), AllocError> {
-    out.push_str("A check tells of the first case:\n")?;
-    push_overlap(out, &failure.overlap)?;
-    out.push_str("; store ")?;
-    push_store(alloc, out, program, &failure.left.start)?;
-    out.push_str("; left ")?;
-    push_store(alloc, out, program, &failure.left_end)?;
-    out.push_str("; right ")?;
-    push_store(alloc, out, program, &failure.right_end)?;
+fn push_first(alloc: Global, out: &mut Prose, program: &Program, failure: &Failure) {
+    out.push_str("A check tells of the first case:\n");
+    push_overlap(out, &failure.overlap);
+    out.push_str("; store ");
+    out.push_plain_store(alloc, program, &failure.left.start);
+    out.push_str("; left ");
+    out.push_plain_store(alloc, program, &failure.left_end);
+    out.push_str("; right ");
+    out.push_plain_store(alloc, program, &failure.right_end);
     out.push_str("\n")
 }
 
 /// Tells of a case whose sides end in different stores: of the smallest one that was found.
-pub(crate) fn push_peak(
-    alloc: Global,
-    out: &mut String,
-    names: &Names,
-    peak: &Peak,
-) -> Result<(), AllocError> {
+pub(crate) fn push_peak(alloc: Global, out: &mut Prose, names: &Names, peak: &Peak) {
     let program = peak.weighed.program();
     let source = NamedProgram { program, names };
     let Some(told) = told_overlap(source, &peak.shown().failure.overlap) else {
-        return Ok(());
+        return;
     };
-    push_case(alloc, out, told, source, peak.shown())?;
+    push_case(alloc, out, told, source, peak.shown());
     if peak.smaller.is_some() {
-        push_first(alloc, out, program, &peak.first.failure)?;
+        push_first(alloc, out, program, &peak.first.failure);
     }
     out.push_str("Two replicas that took these rules in another order would disagree for ever.\n")
 }

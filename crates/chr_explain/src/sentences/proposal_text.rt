@@ -1,17 +1,19 @@
 //! Proposals, as text.
 
+use crate::prose::Prose;
+use chr_base::bag::Bag;
 use chr_diagnosis::{NamedProgram, Peak, Proposal, SmallStores, kept_alone};
-use chr_faults::{Names, push_number};
+use chr_faults::Names;
 use chr_join::Coverage;
 use std::alloc::{AllocError, Global};
 
 /// Adds rules, each in its line.
-fn push_lines(out: &mut String, rules: &str) -> Result<(), AllocError> {
-    out.push_str("  ")?;
+fn push_lines(out: &mut Prose, rules: &str) {
+    out.push_str("  ");
     for c in rules.chars() {
-        out.push(c)?;
+        out.push(c);
         if c == '\n' {
-            out.push_str("  ")?;
+            out.push_str("  ");
         }
     }
     out.push_str("\n")
@@ -49,6 +51,24 @@ struct Choice<'a> {
     proposals: &'a [Proposal],
 }
 
+/// What is told of a store that one proposal alone keeps.
+fn kept_text(
+    alloc: Global,
+    choice: Choice<'_>,
+    store: &Bag,
+    copies: bool,
+) -> Result<String, AllocError> {
+    let program = choice.peak.weighed.program();
+    let source = NamedProgram {
+        program,
+        names: choice.names,
+    };
+    let mut sentence = Prose::new(alloc);
+    sentence.push_str(kept_as(copies));
+    sentence.push_store(alloc, source, store);
+    sentence.finish()
+}
+
 /// Adds the smallest store that a proposal alone keeps, where there is one.
 fn push_kept(
     alloc: Global,
@@ -66,15 +86,7 @@ fn push_kept(
         copies,
     )?;
     if let Some(store) = found {
-        let mut sentence = String::new(alloc);
-        sentence.push_str(kept_as(copies))?;
-        let program = choice.peak.weighed.program();
-        let source = NamedProgram {
-            program,
-            names: choice.names,
-        };
-        source.push_store(alloc, &mut sentence, &store)?;
-        kept.push(sentence)?;
+        kept.push(kept_text(alloc, choice, &store, copies)?)?;
     }
     Ok(())
 }
@@ -129,31 +141,24 @@ pub(crate) fn kept_of(
 }
 
 /// Adds a proposal, and what it alone keeps.
-fn push_proposal(out: &mut String, proposal: &Proposal, kept: &[String]) -> Result<(), AllocError> {
-    push_number(
-        out,
-        " with this in place of rule ",
-        proposal.rule as u64,
-        ":\n",
-    )?;
-    push_lines(out, proposal.rules.as_str())?;
+fn push_proposal(out: &mut Prose, proposal: &Proposal, kept: &[String]) {
+    out.push_number(" with this in place of rule ", proposal.rule as u64, ":\n");
+    push_lines(out, proposal.rules.as_str());
     for sentence in kept {
-        out.push_str(sentence.as_str())?;
-        out.push_str("\n")?;
+        out.push_str(sentence.as_str());
+        out.push_str("\n");
     }
-    Ok(())
 }
 
 /// Tells with which rules a program is accepted by these cases, and what each of them alone keeps.
 pub(crate) fn push_proposals(
-    out: &mut String,
+    out: &mut Prose,
     coverage: Coverage,
     proposals: &[Proposal],
     kept: &[Vec<String>],
-) -> Result<(), AllocError> {
+) {
     for (i, (proposal, kept)) in proposals.iter().zip(kept.iter()).enumerate() {
-        out.push_str(if i == 0 { beginning(coverage) } else { "Or" })?;
-        push_proposal(out, proposal, kept)?;
+        out.push_str(if i == 0 { beginning(coverage) } else { "Or" });
+        push_proposal(out, proposal, kept);
     }
-    Ok(())
 }

@@ -1,5 +1,6 @@
 //! The weights of a rule's atoms as they are told.
 
+use crate::prose::Prose;
 use crate::sentences::symbol_text::push_symbol;
 use chr_base::atom::SymbolId;
 use chr_base::limits::MAX_WEIGHT;
@@ -8,49 +9,42 @@ use chr_base::rule::Rule;
 use chr_base::term::Pattern;
 use chr_base::weight::Weight;
 use chr_diagnosis::ToldRule;
-use chr_faults::push_text;
 use chr_weights::NotLowered;
-use std::alloc::{AllocError, Global};
+use std::alloc::Global;
 
 /// Adds the weight of a symbol.
-fn push_weight(
-    out: &mut String,
-    program: &Program,
-    symbol: SymbolId,
-    paired: bool,
-) -> Result<(), AllocError> {
+fn push_weight(out: &mut Prose, program: &Program, symbol: SymbolId, paired: bool) {
     if usize::from(symbol.0) < program.symbols() {
-        program.weight_of(symbol).push_text(out, paired)?;
+        out.push_weight(program.weight_of(symbol), paired);
     }
-    Ok(())
 }
 
 /// Adds an atom of a rule, and its weight.
 fn push_weighed(
     alloc: Global,
-    out: &mut String,
+    out: &mut Prose,
     told: ToldRule<'_>,
     pattern: &Pattern,
     paired: bool,
-) -> Result<(), AllocError> {
-    told.push_atom(alloc, out, pattern)?;
-    out.push_str(" weighs ")?;
+) {
+    out.push_atom(alloc, told, pattern);
+    out.push_str(" weighs ");
     push_weight(out, told.program, pattern.symbol, paired)
 }
 
 /// Adds the weight of each of these atoms of a rule, with both numbers where `paired`.
 pub(crate) fn push_weights(
     alloc: Global,
-    out: &mut String,
+    out: &mut Prose,
     told: ToldRule<'_>,
     part: &str,
     patterns: &[Pattern],
     paired: bool,
-) -> Result<(), AllocError> {
-    push_text(out, "  ", part, ": ")?;
+) {
+    out.push_text("  ", part, ": ");
     for (i, pattern) in patterns.iter().enumerate() {
-        out.push_str(if i == 0 { "" } else { ", " })?;
-        push_weighed(alloc, out, told, pattern, paired)?;
+        out.push_str(if i == 0 { "" } else { ", " });
+        push_weighed(alloc, out, told, pattern, paired);
     }
     out.push_str(if patterns.is_empty() { "nothing" } else { "" })
 }
@@ -95,11 +89,7 @@ fn lowering_weight(program: &Program, symbol: SymbolId, fault: &NotLowered) -> O
 }
 
 /// Adds a weight of a removed symbol under which the rule lowers the weight, where there is one.
-pub(crate) fn push_lowering(
-    out: &mut String,
-    told: ToldRule<'_>,
-    fault: &NotLowered,
-) -> Result<(), AllocError> {
+pub(crate) fn push_lowering(out: &mut Prose, told: ToldRule<'_>, fault: &NotLowered) {
     for pattern in &told.rule.removed {
         if is_lowered(told.rule, pattern.symbol) {
             if let Some(first) = lowering_weight(told.program, pattern.symbol, fault) {
@@ -107,34 +97,27 @@ pub(crate) fn push_lowering(
             }
         }
     }
-    Ok(())
 }
 
 /// Adds that the rule lowers the weight where the symbol has this one.
-fn push_lowering_clause(
-    out: &mut String,
-    program: &Program,
-    symbol: SymbolId,
-    first: u64,
-) -> Result<(), AllocError> {
-    out.push_str("This rule lowers the weight with `")?;
-    push_weight_clause(out, program, symbol, Weight { first, second: 0 })?;
+fn push_lowering_clause(out: &mut Prose, program: &Program, symbol: SymbolId, first: u64) {
+    out.push_str("This rule lowers the weight with `");
+    push_weight_clause(out, program, symbol, Weight { first, second: 0 });
     out.push_str("`\n")
 }
 
 /// Adds the clause that gives a symbol this weight.
 pub(crate) fn push_weight_clause(
-    out: &mut String,
+    out: &mut Prose,
     program: &Program,
     symbol: SymbolId,
     weight: Weight,
-) -> Result<(), AllocError> {
+) {
     if usize::from(symbol.0) < program.symbols() {
-        out.push_str(":- chr_weight ")?;
-        push_symbol(out, program, symbol)?;
-        out.push_str(" = ")?;
-        weight.push_text(out, weight.is_paired())?;
-        out.push_str(".")?;
+        out.push_str(":- chr_weight ");
+        push_symbol(out, program, symbol);
+        out.push_str(" = ");
+        out.push_weight(weight, weight.is_paired());
+        out.push_str(".");
     }
-    Ok(())
 }

@@ -1,80 +1,69 @@
 //! Nodes that take in each other's files.
-use crate::tests::running::{Run, commit, opened, run_of, taken_in, tell};
-use crate::tests::texts::{board_of, changed_slowly, coins_and_notes, op_of};
-use chr_node::{TakenIn, crash_and_open};
-use chr_node_boards::show;
+use crate::tests::talking::{Run, answers, opened_on, taken_in};
+use crate::tests::texts::{COIN, repeated};
+use chr_node::TakenIn;
 use chr_testing::texts::{COINS, MINIMUM};
-use sqlite_disk::{Fuse, Memory};
 use std::alloc::Global;
 use std::process::Abort;
 use std::thread::Threads;
 
-/// The coins and notes that a node shows.
-fn shown(rt: &impl Abort, alloc: Global, node: &mut Run) -> (usize, usize) {
-    let store = show(alloc, node).expect(rt, "memory");
-    coins_and_notes(&store)
+/// A run of a program that was told a line several times.
+fn run_of(
+    rt: &(impl Abort + Threads + Sync),
+    alloc: Global,
+    program: &str,
+    origin: u32,
+    line: &str,
+    times: u64,
+) -> Run {
+    let mut machine = opened_on(rt, alloc, program, u64::MAX, origin).expect(rt, "a node");
+    let lines = repeated(rt, alloc, line, times);
+    let mut held = String::new(alloc);
+    assert!(rt; answers(alloc, &mut machine, lines.as_str(), &mut held));
+    machine
 }
+
+/// The store that a run shows, as it is answered.
+fn shown(rt: &impl Abort, alloc: Global, machine: &mut Run) -> String {
+    let mut held = String::new(alloc);
+    let answered = machine.talk.answer_line(alloc, b"[\"show\"]", &mut held);
+    assert!(rt; answered.is_ok());
+    held
+}
+
+/// What four coins and as many as the place says come to.
+const STORES: [&str; 4] = [
+    "[\"store\",[[\"note\"],[\"note\"]]]\n",
+    "[\"store\",[[\"coin\"],[\"note\"],[\"note\"]]]\n",
+    "[\"store\",[[\"note\"],[\"note\"],[\"note\"]]]\n",
+    "[\"store\",[[\"coin\"],[\"note\"],[\"note\"],[\"note\"]]]\n",
+];
 
 #[test]
 fn nodes_that_read_each_other_show_one_store(rt: HostRuntime) {
     let alloc = rt.alloc();
-    for coins in 0..4u64 {
-        let mut left = run_of(&rt, alloc, 7, coins);
-        let mut right = run_of(&rt, alloc, 9, 4);
-        assert!(rt; taken_in(&rt, alloc, &mut left, &mut right.feed.disk).is_ok());
-        assert!(rt; taken_in(&rt, alloc, &mut right, &mut left.feed.disk).is_ok());
-        let expected = changed_slowly(coins as usize + 4);
-        assert!(rt; shown(&rt, alloc, &mut left) == expected, "{coins}");
-        assert!(rt; shown(&rt, alloc, &mut right) == expected, "{coins}");
+    for (coins, expected) in STORES.iter().enumerate() {
+        let mut left = run_of(&rt, alloc, COINS, 7, COIN, coins as u64);
+        let mut right = run_of(&rt, alloc, COINS, 9, COIN, 4);
+        assert!(rt; taken_in(&rt, alloc, &mut left, &mut right.talk.node.feed.disk).is_ok());
+        assert!(rt; taken_in(&rt, alloc, &mut right, &mut left.talk.node.feed.disk).is_ok());
+        assert!(rt;
+            shown(&rt, alloc, &mut left).as_str() == *expected,
+            "{coins}"
+        );
+        assert!(rt;
+            shown(&rt, alloc, &mut right).as_str() == *expected,
+            "{coins}"
+        );
     }
-}
-
-/// The run of origin 10 that begins after a crash of one that was told that many coins.
-fn after_a_crash(rt: &(impl Abort + Threads + Sync), alloc: Global, coins: u64) -> Run {
-    let mut before = run_of(rt, alloc, 9, coins);
-    let board = board_of(rt, alloc, COINS);
-    let disk = Fuse::new(Memory::new(alloc), u64::MAX);
-    let next = crash_and_open(alloc, &mut before, board, disk, 10, 0);
-    next.ok().expect(rt, "a node")
-}
-
-#[test]
-fn a_crash_between_changes_nothing(rt: HostRuntime) {
-    let alloc = rt.alloc();
-    let mut left = run_of(&rt, alloc, 7, 2);
-    let mut right = after_a_crash(&rt, alloc, 3);
-    assert!(rt; taken_in(&rt, alloc, &mut right, &mut left.feed.disk).is_ok());
-    assert!(rt; shown(&rt, alloc, &mut right) == changed_slowly(5));
-}
-
-#[test]
-fn a_file_is_taken_in_once(rt: HostRuntime) {
-    let alloc = rt.alloc();
-    let mut left = run_of(&rt, alloc, 7, 2);
-    let mut right = run_of(&rt, alloc, 9, 3);
-    let first = TakenIn { new: 3, strange: 0 };
-    assert!(rt; taken_in(&rt, alloc, &mut left, &mut right.feed.disk) == Ok(first));
-    let second = TakenIn { new: 0, strange: 0 };
-    assert!(rt; taken_in(&rt, alloc, &mut left, &mut right.feed.disk) == Ok(second));
-}
-
-/// A run of another program that was told one atom.
-fn run_of_minimum(rt: &(impl Abort + Threads + Sync), alloc: Global) -> Run {
-    let board = board_of(rt, alloc, MINIMUM);
-    let disk = Fuse::new(Memory::new(alloc), u64::MAX);
-    let mut node = opened(alloc, board, disk, 9, 0).expect(rt, "a node");
-    let op = op_of(rt, alloc, (9, 1), 0, &[3]);
-    assert!(rt; tell(alloc, &mut node, op).is_ok());
-    commit(alloc, &mut node).expect(rt, "a commit");
-    node
 }
 
 #[test]
 fn records_of_another_program_are_counted(rt: HostRuntime) {
     let alloc = rt.alloc();
-    let mut node = run_of(&rt, alloc, 7, 2);
-    let mut other = run_of_minimum(&rt, alloc);
+    let mut machine = run_of(&rt, alloc, COINS, 7, COIN, 2);
+    let mut other = run_of(&rt, alloc, MINIMUM, 9, "[\"tell\",[[\"min\",3]]]\n", 1);
     let strange = TakenIn { new: 0, strange: 1 };
-    assert!(rt; taken_in(&rt, alloc, &mut node, &mut other.feed.disk) == Ok(strange));
-    assert!(rt; shown(&rt, alloc, &mut node) == (0, 1));
+    assert!(rt; taken_in(&rt, alloc, &mut machine, &mut other.talk.node.feed.disk) == Ok(strange));
+    assert!(rt; shown(&rt, alloc, &mut machine).as_str() == "[\"store\",[[\"note\"]]]\n");
 }

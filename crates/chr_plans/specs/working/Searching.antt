@@ -1,6 +1,6 @@
 -- How far a search has come.
-use Rattle.std.specs.Prelude.{◌≡◌, ℕ, ◌<◌, ◌≤◌, List, [], ◌∷◌, length, get_or, map, take, Bool, true, if◌then◌else◌}
-use Rattle.std.specs.Prelude.{Option, Some, None, IsTrue, is_some}
+use Rattle.std.specs.Prelude.{◌≡◌, ℕ, ◌+◌, ◌<◌, ◌≤◌, List, [], ◌∷◌, length, get_or, map, take, Bool, true}
+use Rattle.std.specs.Prelude.{if◌then◌else◌, slice_get, Option, Some, None, IsTrue, is_some}
 use Rattle.std.specs.List.{list_all}
 use Rattle.chr_base.specs.declared.atom.Atom.{Atom}
 use Rattle.chr_base.specs.declared.rule.Rule.{Rule}
@@ -12,9 +12,9 @@ use Rattle.chr_plans.specs.declared.plan.Lookup.{Lookup}
 use Rattle.chr_plans.specs.declared.rows.Seat.{Seat}
 use Rattle.chr_plans.specs.Keys.{source_value, allows}
 use Rattle.chr_plans.specs.Planning.{is_in}
-use Rattle.chr_plans.specs.Rows.{Tables, Columns, HasKey}
+use Rattle.chr_plans.specs.Rows.{Tables, Columns, Ranks, HasKey}
 use Rattle.chr_plans.specs.Seats.{head, seat, atom_in, IsSeated}
-use Rattle.chr_plans.specs.Plans.{IsKnown, partners_of, places_of}
+use Rattle.chr_plans.specs.Plans.{IsKnown, partners_of, places_of, rank_by}
 
 -- the places that are looked for
 abbrev pub looked_in : List Lookup → List ℕ
@@ -30,16 +30,18 @@ abbrev pub NoneFrom : Rule → Tables → ℕ → List ℕ → ℕ → List Atom
 NoneFrom r rows p places n heads seats =
     (hs : List Atom) (ss : List Seat) → IsSeated r rows p hs ss → ¬ AgreeAtKnown places p n hs ss heads seats
 
--- no instance that goes on from these heads and seats sits at the place q in a row from `at` on
-abbrev pub Past : Rule → Tables → ℕ → List ℕ → ℕ → ℕ → List Atom → List Seat → ℕ → Type 0
-Past r rows p places n q heads seats at =
+-- no instance that goes on from these heads and seats sits at the place q in a row of a rank from `at` on
+abbrev pub Past : Rule → Tables → (ℕ → ℕ) → ℕ → List ℕ → ℕ → ℕ → List Atom → List Seat → ℕ → Type 0
+Past r rows rank p places n q heads seats at =
     (hs : List Atom) (ss : List Seat) → IsSeated r rows p hs ss → AgreeAtKnown places p n hs ss heads seats
-    → ¬ (at ≤ (seat ss q).row)
+    → ¬ (at ≤ rank (seat ss q).row)
 
--- `Past` at the place of the next look-up, where there is one
-abbrev pub PastFrom : Rule → Tables → ℕ → List Lookup → ℕ → List Atom → List Seat → ℕ → Type 0
-PastFrom r rows p lookups n heads seats at =
-    n < length lookups → Past r rows p (looked_in lookups) n (get_or (looked_in lookups) n 0) heads seats at
+-- where there is a next look-up, no such instance sits at its place in a row of a greater rank than this one
+abbrev pub PastFrom : Rule → Tables → Ranks → ℕ → List Lookup → ℕ → List Atom → List Seat → ℕ → Type 0
+PastFrom r rows rank p lookups n heads seats row =
+    n < length lookups
+    → Past r rows (rank_by rank (slice_get lookups n)) p (looked_in lookups) n (get_or (looked_in lookups) n 0)
+    heads seats (rank_by rank (slice_get lookups n) row + 1)
 
 -- the heads at the first n places sit in different live rows
 pub record AreStarted (rows : Tables) (places : List ℕ) (n : ℕ) (heads : List Atom) (seats : List Seat) : Type 0 where

@@ -1,5 +1,5 @@
 //! A book that is called many times.
-use crate::tests::texts::accepted_in;
+use crate::tests::texts::accepted;
 use chr_acts::{Act, Book, Entry};
 use chr_testing::texts::MINIMUM;
 use std::alloc::Global;
@@ -11,14 +11,19 @@ fn asked(rt: &impl Abort, alloc: Global, book: &mut Book, seat: u32) -> Entry {
     entered.ok().expect(rt, "memory")
 }
 
+/// Two seats ask in turn, 50,000 times each. Answers the number of the last entry.
+fn last_of_many(rt: &impl Abort, alloc: Global, book: &mut Book) -> u64 {
+    let mut last = 0;
+    for seat in 0..100_000 {
+        last = asked(rt, alloc, book, seat % 2).number;
+    }
+    last
+}
+
 #[test]
 fn a_call_costs_no_more_after_many(rt: HostRuntime) {
     let alloc = rt.alloc();
-    let mut book = Book::open(alloc, accepted_in(&rt, alloc, MINIMUM, 1)).expect(&rt, "memory");
-    let mut last = 0;
-    for seat in 0..100_000 {
-        last = asked(&rt, alloc, &mut book, seat % 2).number;
-    }
-    assert!(rt; last == 50_000);
+    let mut book = Book::open(alloc, accepted(&rt, alloc, MINIMUM)).expect(&rt, "memory");
+    assert!(rt; last_of_many(&rt, alloc, &mut book) == 50_000);
     assert!(rt; book.entries() == 100_000);
 }

@@ -1,4 +1,4 @@
-use Rattle.std.proofs.Common.{◌<◌, length, arith}
+use Rattle.std.proofs.Common.{◌<◌, length, refl, arith}
 use Rattle.chr_plans.specs.Seats.{seat}
 use Rattle.chr_columns.proofs.Stored.{row_there, kill_rows, kill_keys, kill_many, same_columns}
 use Rattle.chr_columns.proofs.rested.kill_all.Goals as goal
@@ -26,3 +26,6 @@ loop-seat-preserved c =
 
 pub returns-clause-columns : goal.returns-clause-columns
 returns-clause-columns c = same_columns _ _ c.loop-seat.invariant.keys
+
+pub returns-clause-ranks : goal.returns-clause-ranks
+returns-clause-ranks c = refl

@@ -19,7 +19,7 @@ node_refusal-requires c =
     c.in-Err.ensures.refused
 
 pub returns-in-Err-clause-refused : goal.returns-in-Err-clause-refused
-returns-in-Err-clause-refused c = (c.in-Err.refusal, c.in-Err.ensures.refused, c.node_refusal.ensures)
+returns-in-Err-clause-refused c = (c.in-Err.refusal, c.in-Err.ensures.refused, c.node_refusal.ensures.number)
 
 pub returns-in-Err-clause-out : goal.returns-in-Err-clause-out
 returns-in-Err-clause-out c = ap (λ (b : Held). b.replica.out) c.in-Err.ensures.err

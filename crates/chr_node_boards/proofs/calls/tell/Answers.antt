@@ -1,7 +1,9 @@
-use Rattle.std.proofs.Common.{Ok, ap, ◌∙◌}
+use Rattle.std.proofs.Common.{Ok, ap, ◌∙◌, subst, sym}
+use Rattle.chr_node.specs.declared.fault.Refusal.{Refusal}
+use Rattle.chr_node.specs.Refusals.{HolderRefuses}
 use Rattle.chr_replica.specs.Boards.{Held, program_on}
 use Rattle.chr_replica.specs.Replicas.{Replica}
-use Rattle.chr_node_boards.proofs.Replicas.{tell_is_of_telling}
+use Rattle.chr_node_boards.proofs.Replicas.{tell_is_of_telling, tell_refused}
 use Rattle.chr_node_boards.proofs.calls.tell.Goals as goal
 
 pub returns-in-Ok-New-clause-out : goal.returns-in-Ok-New-clause-out
@@ -36,7 +38,15 @@ node_refusal-requires c =
     c.in-Err.ensures.refused
 
 pub returns-in-Err-clause-refused : goal.returns-in-Err-clause-refused
-returns-in-Err-clause-refused c = (c.in-Err.refusal, c.in-Err.ensures.refused, c.node_refusal.ensures)
+returns-in-Err-clause-refused c =
+    let p = program_on c.args.board.now in
+    let s = c.args.board.now.replica in
+    subst (λ (e : Refusal). HolderRefuses p s.operations c.args.op e) (sym c.node_refusal.ensures.same)
+    (tell_refused p s c.args.op c.in-Err.refusal c.in-Err.ensures.refused)
+
+pub returns-in-Ok-Again-clause-again : goal.returns-in-Ok-Again-clause-again
+returns-in-Ok-Again-clause-again c =
+    λ _. (c.tell.ensures.again (c.in-Ok-Again.is ∙ ap Ok c.in-Ok-Again.field-0-is)).1
 
 pub returns-in-Err-clause-out : goal.returns-in-Err-clause-out
 returns-in-Err-clause-out c = ap (λ (b : Held). b.replica.out) c.in-Err.ensures.err

@@ -8,7 +8,7 @@ pub returns-clause-none : goal.returns-clause-none
 returns-clause-none g c = OnTrue_from c.is_none.result _ (λ e other has allowed.
     (let key : c.deref-2.result.now ≡ map (λ k. source_value c.args.heads.now k.source)
     c.args.lookup.now.partner.key.items = c.deref-2.ensures.0 ∙ c.read_key.ensures in
-    none_found _ c.newest_from.result c.is_none.result c.is_none.ensures e c.newest_from.ensures.none other tt
+    none_found _ c.first_from.result c.is_none.result c.is_none.ensures e c.first_from.ensures.none other tt
     (rw key has) (
       allowed.0,
       allowed.1,

@@ -15,6 +15,7 @@ loop-j-preserved g c = record {
   rows = c.find_partners.ensures.rows ∙ c.loop-j.invariant.rows;
   columns = c.find_partners.ensures.columns ∙ c.loop-j.invariant.columns;
   tables = c.find_partners.ensures.tables ∙ c.loop-j.invariant.tables;
+  rank = c.find_partners.ensures.rank ∙ c.loop-j.invariant.rank;
   none = none_more c.args.rules.now _ (g.R.Rows.columns c.args.rows.now) c.args.active.now c.args.plans.now c.loop-j.j
       c.index-plans-j.result c.index-rules-plan.result
       c.loop-j-test.true c.index-plans-j.is c.index-rules-plan.is (c.requires.fits c.loop-j.j c.loop-j-test.true)
@@ -26,23 +27,26 @@ loop-j-init g c = record {
   rows = refl;
   columns = refl;
   tables = refl;
-  none = before_first c.args.rules.now _ c.args.active.now c.args.plans.now c.args.from c.first_plan-j.result
-      c.requires.passed c.first_plan-j.ensures.some c.first_plan-j.ensures.none;
+  rank = refl;
+  none = before_first c.args.rules.now _ (g.R.Rows.rank c.args.rows.now) c.args.active.now c.args.plans.now
+      c.args.from c.first_plan-j.result c.requires.passed c.first_plan-j.ensures.some c.first_plan-j.ensures.none;
 }
 
 pub find_partners-requires-clause-passed : goal.find_partners-requires-clause-passed
 find_partners-requires-clause-passed g c =
-    rw (c.loop-j.invariant.rows, c.deref.ensures.0) (row_passed c.args.rules.now _ (g.R.Rows.columns c.args.rows.now)
-    c.args.active.now c.args.plans.now c.loop-j.j c.index-plans-j.result c.index-rules-plan.result
-    c.loop-j-test.true c.index-plans-j.is c.index-rules-plan.is (c.requires.fits c.loop-j.j c.loop-j-test.true)
-    c.args.from c.row_in-row.result c.requires.passed c.row_in-row.ensures)
+    rw (c.loop-j.invariant.rows, c.loop-j.invariant.rank, c.deref.ensures.0)
+    (row_passed c.args.rules.now _ (g.R.Rows.columns c.args.rows.now) c.args.active.now c.args.plans.now
+    c.loop-j.j c.index-plans-j.result c.index-rules-plan.result c.loop-j-test.true c.index-plans-j.is
+    c.index-rules-plan.is (c.requires.fits c.loop-j.j c.loop-j-test.true)
+    (g.R.Rows.rank c.args.rows.now) c.args.from c.row_in-row.result c.requires.passed c.row_in-row.ensures)
 
 pub returns-then-find_partners-clause-standing : goal.returns-then-find_partners-clause-standing
 returns-then-find_partners-clause-standing g c =
     resumes c.args.rules.now _ (g.R.Rows.columns c.args.rows.now) c.args.active.now c.args.plans.now c.loop-j.j
     c.index-plans-j.result c.index-rules-plan.result
     c.loop-j-test.true c.index-plans-j.is c.index-rules-plan.is (c.requires.fits c.loop-j.j c.loop-j-test.true)
-    _ c.loop-j.invariant.none (rw (c.loop-j.invariant.rows, c.deref.ensures.0) at c.if-find_partners.ensures.passed)
+    (g.R.Rows.rank c.args.rows.now) _ c.loop-j.invariant.none
+    (rw (c.loop-j.invariant.rows, c.loop-j.invariant.rank, c.deref.ensures.0) at c.if-find_partners.ensures.passed)
 
 pub find_partners-requires-clause-place : goal.find_partners-requires-clause-place
 find_partners-requires-clause-place g c =
@@ -69,6 +73,7 @@ loop-j-preserved-then-is_ruled_out g c = record {
   rows = c.loop-j.invariant.rows;
   columns = c.loop-j.invariant.columns;
   tables = c.loop-j.invariant.tables;
+  rank = c.loop-j.invariant.rank;
   none = none_more c.args.rules.now _ (g.R.Rows.columns c.args.rows.now) c.args.active.now c.args.plans.now c.loop-j.j
       c.index-plans-j.result c.index-rules-plan.result
       c.loop-j-test.true c.index-plans-j.is c.index-rules-plan.is (c.requires.fits c.loop-j.j c.loop-j-test.true)

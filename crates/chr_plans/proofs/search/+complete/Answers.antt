@@ -1,4 +1,4 @@
-use Rattle.std.proofs.Common.{◌≡◌, ◌<◌, length, get_or, map, inr, refl, sym, ap, ◌∙◌, arith}
+use Rattle.std.proofs.Common.{◌≡◌, ℕ, ◌<◌, length, get_or, map, inr, refl, sym, ap, ◌∙◌, arith}
 use Rattle.std.proofs.lemmas.Bool.{OnTrue_from, OnFalse_from}
 use Rattle.std.proofs.lemmas.List.{length-set, length-take-le}
 use Rattle.chr_plans.specs.Keys.{source_value}
@@ -7,7 +7,7 @@ use Rattle.chr_plans.specs.working.Searching.{looked_in}
 use Rattle.chr_base.proofs.Instances.{heads_few}
 use Rattle.chr_plans.proofs.Places.{places_take, partners_len}
 use Rattle.chr_plans.proofs.Hopeless.{all_indexed, none_from}
-use Rattle.chr_plans.proofs.Searches.{IsWanted, bound, below_found, below_next, newest_next, none_next, place_within}
+use Rattle.chr_plans.proofs.Searches.{IsWanted, bound, below_found, below_next, greatest_next, none_next, place_within}
 use Rattle.chr_plans.proofs.Searches.{past_begun, past_found, seat_found, past_next, not_passed, not_taken, not_found}
 use Rattle.chr_plans.proofs.Searches.{seated_all, none_all, started_more, same_deeper}
 use Rattle.chr_plans.proofs.search.+complete.Goals.{then-not-is_taken+else-complete, else-not-is_taken}
@@ -39,21 +39,22 @@ returns-in_default-clause-none g t c =
     c.index-lookups-done.result.partner.key.items = c.deref.ensures.0 ∙ c.read_key.ensures in
     let past = past_begun c.args.rule.now c.args.active c.args.lookups.now c.args.done c.index-lookups-done.result _
     (g.R.Rows.columns c.args.rows.now) c.args.heads.now c.args.seats.now c.requires.plan c.requires.fits n
-    (sym c.index-lookups-done.is) c.read_span.new.span c.args.from c.newest_from.result
+    (sym c.index-lookups-done.is) (g.R.Rows.rank c.args.rows.now) c.read_span.new.span c.args.from c.first_from.result
     c.read_span.ensures.all c.requires.passed
-    (below_found _ _ _ c.newest_from.result (rw (← key) c.newest_from.ensures.newest)
-    (rw (← key) c.newest_from.ensures.none)) in
+    (below_found (g.R.Rows.rank c.args.rows.now c.index-lookups-done.result.table
+    c.index-lookups-done.result.index) _ _ _ c.first_from.result (rw (← key) c.first_from.ensures.greatest)
+    (rw (← key) c.first_from.ensures.none)) in
     λ hs ss s same. (rw c.in_default.is at past) hs ss s same (omega arith)
 
 pub is_hopeless-requires-clause-indexed : goal.is_hopeless-requires-clause-indexed
-is_hopeless-requires-clause-indexed g t c = rw c.newest_from.ensures.columns (all_indexed c.args.rule.now _
+is_hopeless-requires-clause-indexed g t c = rw c.first_from.ensures.columns (all_indexed c.args.rule.now _
     c.args.lookups.now (g.R.Rows.columns c.args.rows.now) c.requires.fits)
 
 pub returns-then-is_hopeless-clause-none : goal.returns-then-is_hopeless-clause-none
 returns-then-is_hopeless-clause-none g t c =
     none_from c.args.rule.now _ (g.R.Rows.columns c.args.rows.now) c.args.active c.args.lookups.now c.args.done
     c.args.heads.now c.args.seats.now c.requires.plan c.requires.fits
-    (rw (c.newest_from.ensures.rows, c.newest_from.ensures.columns) at c.if-is_hopeless.ensures.missing)
+    (rw (c.first_from.ensures.rows, c.first_from.ensures.columns) at c.if-is_hopeless.ensures.missing)
 
 pub loop-next-init : goal.loop-next-init
 loop-next-init g t c =
@@ -63,18 +64,20 @@ loop-next-init g t c =
     c.index-lookups-done.result.partner.key.items = c.deref.ensures.0 ∙ c.read_key.ensures in
     let past = past_begun c.args.rule.now c.args.active c.args.lookups.now c.args.done c.index-lookups-done.result _
     (g.R.Rows.columns c.args.rows.now) c.args.heads.now c.args.seats.now c.requires.plan c.requires.fits n
-    (sym c.index-lookups-done.is) c.read_span.new.span c.args.from c.newest_from.result
+    (sym c.index-lookups-done.is) (g.R.Rows.rank c.args.rows.now) c.read_span.new.span c.args.from c.first_from.result
     c.read_span.ensures.all c.requires.passed
-    (below_found _ _ _ c.newest_from.result (rw (← key) c.newest_from.ensures.newest)
-    (rw (← key) c.newest_from.ensures.none)) in
+    (below_found (g.R.Rows.rank c.args.rows.now c.index-lookups-done.result.table
+    c.index-lookups-done.result.index) _ _ _ c.first_from.result (rw (← key) c.first_from.ensures.greatest)
+    (rw (← key) c.first_from.ensures.none)) in
     record {
-      rows = c.is_hopeless.ensures.rows ∙ c.newest_from.ensures.rows;
-      columns = c.is_hopeless.ensures.columns ∙ c.newest_from.ensures.columns;
-      tables = c.is_hopeless.ensures.tables ∙ c.newest_from.ensures.tables;
+      rows = c.is_hopeless.ensures.rows ∙ c.first_from.ensures.rows;
+      columns = c.is_hopeless.ensures.columns ∙ c.first_from.ensures.columns;
+      tables = c.is_hopeless.ensures.tables ∙ c.first_from.ensures.tables;
+      rank = c.is_hopeless.ensures.rank ∙ c.first_from.ensures.rank;
       heads = c.requires.heads;
       seats = c.requires.seats;
       same = λ k b. (refl, refl);
-      lives = rw c.in-Some.is at c.newest_from.ensures.lives;
+      lives = rw c.in-Some.is at c.first_from.ensures.lives;
       past = rw c.in-Some.is at past;
     }
 
@@ -186,8 +189,8 @@ returns-then-complete-clause-passed g t c =
     (g.R.Rows.columns c.args.rows.now) c.args.heads.now c.args.seats.now c.requires.plan c.requires.fits n here in
     let s = c.loop-next.invariant.seats in
     past_found c.args.rule.now c.args.active c.args.lookups.now c.args.done c.index-lookups-done.result _
-    (g.R.Rows.columns c.args.rows.now) c.args.heads.now c.args.seats.now c.requires.plan c.requires.fits n here _
-    c.in-Some-next.row
+    (g.R.Rows.columns c.args.rows.now) c.args.heads.now c.args.seats.now c.requires.plan c.requires.fits n here
+    (g.R.Rows.rank c.args.rows.now) _ c.in-Some-next.row
     (rw c.in-Some-next.is at c.loop-next.invariant.past)
     (ap (λ x. x.row) (seat_found c.args.rule.now c.args.active c.args.lookups.now c.args.done
     c.index-lookups-done.result _ (g.R.Rows.columns c.args.rows.now) c.args.heads.now c.args.seats.now
@@ -218,6 +221,14 @@ loop-next-preserved g t c =
           ∙ c.loop-next.invariant.columns
       | else-not-is_taken w ↦ ap g.R.Rows.columns w.rows-is ∙ c.loop-next.invariant.columns
     ] in
+    let ranks : ℕ → ℕ = g.R.Rows.rank c.args.rows.now c.index-lookups-done.result.table
+    c.index-lookups-done.result.index in
+    let rank_now : g.R.Rows.rank c.if-not-is_taken.rows ≡ g.R.Rows.rank c.args.rows.now =
+    elim c.if-not-is_taken.branch [
+      | then-not-is_taken+else-complete w ↦ ap g.R.Rows.rank w.rows-is ∙ w.complete.ensures.rank
+          ∙ c.loop-next.invariant.rank
+      | else-not-is_taken w ↦ ap g.R.Rows.rank w.rows-is ∙ c.loop-next.invariant.rank
+    ] in
     record {
       rows = c.next-next.ensures.rows ∙ rows_now;
       columns = c.next-next.ensures.columns ∙ columns_now;
@@ -226,6 +237,7 @@ loop-next-preserved g t c =
             ∙ c.loop-next.invariant.tables
         | else-not-is_taken w ↦ ap g.R.Rows.tables w.rows-is ∙ c.loop-next.invariant.tables
       ];
+      rank = c.next-next.ensures.rank ∙ rank_now;
       heads = elim c.if-not-is_taken.branch [
         | then-not-is_taken+else-complete w ↦ ap length w.heads-is ∙ w.complete.ensures.lengths.0
             ∙ length-set c.loop-next.heads _ _ ∙ h
@@ -246,16 +258,17 @@ loop-next-preserved g t c =
       lives = rw (← rows_now) c.next-next.ensures.lives;
       past = past_next c.args.rule.now c.args.active c.args.lookups.now c.args.done c.index-lookups-done.result _
           (g.R.Rows.columns c.args.rows.now) c.args.heads.now c.args.seats.now c.requires.plan c.requires.fits n
-          (sym c.index-lookups-done.is) c.read_span.new.span c.in-Some-next.row
-          (bound c.next-next.result) c.read_span.ensures.all
-          (below_next (λ q. IsWanted (g.R.Rows.columns c.args.rows.now c.index-lookups-done.result.table
+          (sym c.index-lookups-done.is) ranks c.read_span.new.span c.in-Some-next.row
+          (bound ranks c.next-next.result) (rw (← rows_now, ← rank_now) c.next-next.ensures.own_ranks)
+          (rw c.in-Some-next.is at c.loop-next.invariant.lives) c.read_span.ensures.all
+          (below_next ranks (λ q. IsWanted (g.R.Rows.columns c.args.rows.now c.index-lookups-done.result.table
           c.index-lookups-done.result.index) (map (λ k. source_value c.args.heads.now k.source)
           c.index-lookups-done.result.partner.key.items) c.read_span.new.span
-          (g.R.Rows.rows c.args.rows.now c.index-lookups-done.result.table q)) c.in-Some-next.row c.next-next.result
-          (newest_next _ _ c.in-Some-next.row c.next-next.result
-          (rw (← key, ← rows_now, ← columns_now) c.next-next.ensures.newest))
-          (none_next _ _ c.in-Some-next.row c.next-next.result
-          (rw (← key, ← rows_now, ← columns_now) c.next-next.ensures.none)))
+          (g.R.Rows.rows c.args.rows.now c.index-lookups-done.result.table q)) (ranks c.in-Some-next.row)
+          c.next-next.result (greatest_next ranks _ _ (ranks c.in-Some-next.row) c.next-next.result
+          (rw (← key, ← rows_now, ← columns_now, ← rank_now) c.next-next.ensures.greatest))
+          (none_next ranks _ _ (ranks c.in-Some-next.row) c.next-next.result
+          (rw (← key, ← rows_now, ← columns_now, ← rank_now) c.next-next.ensures.none)))
           (elim c.if-not-is_taken.branch [
             | then-not-is_taken+else-complete w ↦ not_found c.args.rule.now c.args.active c.args.lookups.now c.args.done
                 c.index-lookups-done.result _ (g.R.Rows.columns c.args.rows.now) c.args.heads.now c.args.seats.now

@@ -1,7 +1,7 @@
 //! Boards are rested.
 ghost use Rattle.std.specs.Prelude.{◌≡◌, ◌≤◌, true};
 
-use crate::tests::workers::gates::{Holds, Notes};
+use crate::tests::gates::{Holds, Notes};
 use crate::tests::workers::making::{board, leasts, tell};
 use chr_base::limits::{MAX_PARTS, MAX_WORKERS};
 use chr_replica::Board;
@@ -92,7 +92,7 @@ fn workers_come_to_the_least(rt: HostRuntime) {
 #[test]
 fn two_workers_rest_two_parts_at_once(rt: HostRuntime) {
     let mut board = board(&rt, rt.alloc(), MANY);
-    let gate = Holds::new();
+    let gate = Holds::new(1);
     rest(&rt, rt.alloc(), &mut board, 2, 2, &gate);
     assert!(rt; gate.has_seen_both());
     shows(&rt, rt.alloc(), &board, MANY);

@@ -1,4 +1,4 @@
-use Rattle.std.proofs.Common.{◌≡◌, ◌<◌, ◌+◌, ◌^◌, length, rules, subst}
+use Rattle.std.proofs.Common.{◌<◌, ◌+◌, ◌^◌, length, rules, subst}
 use Rattle.std.specs.Bool.{OnFalse, OnTrue}
 use Rattle.std.specs.Io.KnownBytes.{IsAtEnd}
 use Rattle.chr_device.specs.Devices.{inner_of}

@@ -6,6 +6,9 @@ use Rattle.chr_report.proofs.serving.serve.Goals as goal
 
 pub returns-clause-err : goal.returns-clause-err
 returns-clause-err g c =
-    let W = g.T.Wire in
-    if_err c.serve_wanted.result (λ h. subst (λ w. WritesBeginning (W.unread c.args.wire.now) (W.sent c.args.wire.now)
-    (W.sent c.serve_wanted.new.wire) Run w) c.from_settings.ensures h) c.serve_wanted.ensures.err
+    let T = g.T.Peer in
+    let from = T.unread c.args.wire.now in
+    let old = T.sent c.args.wire.now in
+    let new = T.sent c.serve_asked.new.wire in
+    if_err c.serve_asked.result (subst (WritesBeginning from old new Run) c.from_settings.ensures)
+    c.serve_asked.ensures.err

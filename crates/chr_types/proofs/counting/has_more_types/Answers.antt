@@ -12,7 +12,8 @@ use Rattle.chr_types.proofs.Counted.{Step, counted_past, counted_within, all_pas
 use Rattle.chr_types.proofs.Slots.{within_most}
 use Rattle.chr_types.proofs.Passing.{walked_passes}
 use Rattle.chr_types.proofs.Theorem.{lists_are}
-use Rattle.chr_types.proofs.TooMany.{more_types, many_classes, not_more}
+use Rattle.chr_types.proofs.BesideFirst.{many_classes}
+use Rattle.chr_types.proofs.TooMany.{more_types, not_more}
 use Rattle.chr_types.proofs.Walking.{ok_then}
 use Rattle.chr_types.proofs.counting.has_more_types.Goals as goal
 
@@ -20,6 +21,12 @@ pub returns-then-classes-gt-MAX_CLASSES : goal.returns-then-classes-gt-MAX_CLASS
 returns-then-classes-gt-MAX_CLASSES c = (
   λ _. many_classes c.args.limit c.args.classes c.args.constants.now
       c.ranges.limit.fits c.if-classes-gt-MAX_CLASSES.true,
+  λ _. refl,
+)
+
+pub returns-then-are_many : goal.returns-then-are_many
+returns-then-are_many c = (
+  λ _. OnTrue_at c.if-are_many.true c.are_many.ensures c.args.constants.now,
   λ _. refl,
 )
 

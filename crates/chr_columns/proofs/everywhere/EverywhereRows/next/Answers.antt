@@ -7,3 +7,6 @@ returns-clause-lives c =
     let s = c.args.self.now in
     lives_in_table (rows_but s.tables.now s.fresh.now s.active) c.args._table c.args._index c.below.result c.requires
     c.below.ensures.lives
+
+pub returns-clause-own_ranks : goal.returns-clause-own_ranks
+returns-clause-own_ranks c = λ n m live lives same. same

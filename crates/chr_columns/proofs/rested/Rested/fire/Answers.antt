@@ -90,4 +90,4 @@ returns-clause-standing c =
     (head c.args.found.now.heads.items c.args.o.place) c.args.o.standing c.standing_of-standing.result _
     c.standing_of-standing.ensures c.put_fresh.ensures.last
     refl refl (only_died c.args.self.now.tables.tables.items c.kill_all.new.tables.tables.items c.deref-2.result.now
-    c.kill_all.ensures.rows) c.requires.standing
+    c.kill_all.ensures.rows) c.kill_all.ensures.ranks c.requires.standing

@@ -114,5 +114,5 @@ react-requires-clause-passed c =
     let at = group_at c.args.self.now.directory.groups.items c.deref.result.now c.args.active.now
     c.args.table c.in-Some.group.now c.deref.ensures.value t within c.in-Some.ensures.lookup.1 in
     rw (c.deref-2.ensures.value, c.deref-3.ensures.value)
-    (goes_by c.args.self.now.rules.items c.args.self.now.directory.groups.items _ c.args.active.now c.args.from
+    (goes_by c.args.self.now.rules.items c.args.self.now.directory.groups.items _ _ c.args.active.now c.args.from
     c.in-Some.group.now at c.requires.standing)

@@ -5,8 +5,8 @@ pub first-requires : goal.first-requires
 first-requires c = index_there c.args.self.now.tables.items c.args.table c.args.index c.index_mut.result.now c.requires
     c.index_mut.ensures.value
 
-pub returns-clause-newest : goal.returns-clause-newest
-returns-clause-newest c =
+pub returns-clause-greatest : goal.returns-clause-greatest
+returns-clause-greatest c =
     rw (← table_is c.args.self.now.tables.items c.args.table c.args.index c.index_mut.result.now c.requires
     c.index_mut.ensures.value) c.first.ensures.newest
 

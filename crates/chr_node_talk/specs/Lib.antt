@@ -1,0 +1,4 @@
+pub mod Moments
+pub mod Answers
+pub mod Lines
+pub mod Talks

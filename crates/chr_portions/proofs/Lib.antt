@@ -1,0 +1,3 @@
+pub mod Trees
+pub mod Kept
+pub mod Entries

@@ -1,0 +1,2 @@
+pub mod RankedPairs
+pub mod working

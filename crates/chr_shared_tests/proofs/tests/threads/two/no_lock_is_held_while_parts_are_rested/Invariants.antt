@@ -1,4 +1,0 @@
-use Rattle.chr_shared_tests.proofs.tests.threads.two.no_lock_is_held_while_parts_are_rested.Given as goal
-
-abbrev pub ghosts-share : goal.ghosts-share
-ghosts-share g a = record { opening = a.opening }
