@@ -76,7 +76,7 @@ def run_one(name: str) -> Tally:
 
 def run_at_once(tasks: Mapping[str, int], processes: int, is_brief: bool, to: TextIO, terminal: TextIO) -> Tally:
     """Runs tests and modules, each in a process of its own, several at once. A task has a number of tests. What they
-    write is told when they have ended; briefly, how many have ended, and at the end what those wrote that failed."""
+    write is told when they have ended; briefly, how many have ended. At the end stands what those wrote that failed."""
     whole, progress = Tally(), Progress(sum(tasks.values()), terminal)
     told: list[str] = []
     with multiprocessing.get_context("fork").Pool(processes, maxtasksperchild=1) as pool:
@@ -86,7 +86,7 @@ def run_at_once(tasks: Mapping[str, int], processes: int, is_brief: bool, to: Te
                 to.write(tally.written)
             else:
                 progress.add(tasks[tally.name], tally.failed)
-                told += [tally.written] if tally.failed else []
+            told += [tally.written] if tally.failed else []
     progress.clear()
     to.write("".join(told))
     return whole

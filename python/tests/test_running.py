@@ -77,12 +77,14 @@ class Running(unittest.TestCase):
         return run_at_once(TASKS, 2, is_brief, written, terminal), written.getvalue()
 
     def test_all(self) -> None:
-        """Each test is told, with what it printed, and no progress."""
+        """Each test is told, with what it printed, and no progress; what fails stands at the end, too."""
         terminal = Terminal()
         tally, written = self.ran(False, terminal)
         self.assertEqual((tally.passed, tally.failed, len(tally.skipped)), (3, 1, 1))
-        for said in ("said by a good test", "said by a bad test", "test_well", "it has no machine"):
+        for said in ("said by a good test", "test_well", "it has no machine"):
             self.assertIn(said, written)
+        self.assertEqual(written.count("said by a bad test"), 2)
+        self.assertIn("FAILED (failures=1)", written.splitlines()[-1])
         self.assertEqual(shown(terminal.getvalue()), "")
         self.assertNotIn(" of ", terminal.getvalue())
 

@@ -13,7 +13,7 @@ import tempfile
 import time
 from abc import ABC, abstractmethod
 from collections.abc import Iterator
-from contextlib import closing, contextmanager
+from contextlib import closing, contextmanager, suppress
 from pathlib import Path
 from typing import Any
 
@@ -213,11 +213,12 @@ class Server(Engine):
             time.sleep(0.05)
 
     def processes(self) -> list[int]:
-        """The server's processes, which this one has started."""
+        """The server's processes, which this one has started. Those that have just ended have no children."""
         assert self.server
         found = [self.server.pid]
         for pid in found:
-            found += map(int, Path(f"/proc/{pid}/task/{pid}/children").read_text().split())
+            with suppress(FileNotFoundError, ProcessLookupError):
+                found += map(int, Path(f"/proc/{pid}/task/{pid}/children").read_text().split())
         return found
 
     @contextmanager
@@ -225,12 +226,14 @@ class Server(Engine):
         """A time in which the server takes connections, and does nothing."""
         stopped = self.processes()
         for pid in stopped:
-            os.kill(pid, signal.SIGSTOP)
+            with suppress(ProcessLookupError):
+                os.kill(pid, signal.SIGSTOP)
         try:
             yield
         finally:
             for pid in stopped:
-                os.kill(pid, signal.SIGCONT)
+                with suppress(ProcessLookupError):
+                    os.kill(pid, signal.SIGCONT)
 
     def stop(self, by: signal.Signals = signal.SIGTERM) -> None:
         if self.server:
