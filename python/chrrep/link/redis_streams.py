@@ -28,6 +28,8 @@ _ANSWER_SECONDS = 10.0
 _LEAST_SECONDS = 0.5
 _TURNS = 4
 """Answers that a link waits for in vain before its patience is at its end, at least."""
+_DISCONNECTS = 100
+"""Times that connections are ended, at most: each may be one that another thread ends, too."""
 _ALL = 2**64 - 1
 """Beyond each number."""
 
@@ -414,7 +416,15 @@ class RedisLink(log.Link):
         with suppress(Exception), self._client(log.PARTING_SECONDS) as engine:
             self._scripts[_LET_GO](self._keys("leases", "members"), [self.writer, self.origin], engine)
         self._engine.close()
-        self._engine.connection_pool.disconnect()
+        self._disconnect()
+
+    def _disconnect(self) -> None:
+        """Ends all connections, also those on which other threads wait for an answer."""
+        for _ in range(_DISCONNECTS):
+            # redis fails where another thread gives up the same connection at this moment
+            with suppress(AttributeError, OSError):
+                self._engine.connection_pool.disconnect()
+                return
 
     def take_another_origin(self) -> None:
         super().take_another_origin()

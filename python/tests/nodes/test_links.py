@@ -39,6 +39,26 @@ class RedisPromises(promises.Promises, promises.Hangs):
     def odd_numbers(self) -> dict[str, str]:
         return {"epoch": "x", "generation": "", "format": "one"}
 
+    def test_a_connection_that_two_threads_end(self) -> None:
+        """The one that closes the link, and the one that holds its origin and waits no longer."""
+        import redis
+
+        ended: list[redis.Connection] = []
+        end = redis.Connection.disconnect
+
+        def fail_first(connection: redis.Connection, *words: object) -> None:
+            ended.append(connection)
+            if len(ended) == 1:
+                raise AttributeError("'NoneType' object has no attribute 'close'")
+            end(connection, *words)
+
+        link = self.link()
+        link.mark()
+        with patch.object(redis.Connection, "disconnect", fail_first):
+            link.close()
+        self.assertIs(ended[0], ended[1])
+        self.assertEqual({connection._sock for connection in ended}, {None})
+
 
 class PostgresPromises(promises.Promises, promises.Hangs):
     kind = Postgres
