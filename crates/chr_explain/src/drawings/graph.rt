@@ -24,12 +24,13 @@ pub(crate) fn node_with(name: Prose, text: Prose, more: Prose) -> Result<Node, A
 
 /// An edge.
 pub(crate) struct Edge {
-    /// The places of its nodes, counted from 0.
+    /// The place of the node at which it begins, counted from 0.
     pub from: usize,
+    /// The place of the node at which it ends, counted from 0.
     pub to: usize,
     /// What it says.
     pub text: String,
-    /// The same in a few characters.
+    /// What it says, in a few characters.
     pub mark: String,
 }
 
@@ -46,8 +47,11 @@ pub(crate) enum Meaning {
 
 /// What is drawn.
 pub(crate) struct Graph {
+    /// What the edges say.
     pub meaning: Meaning,
+    /// The nodes, in the order in which they are drawn.
     pub nodes: Vec<Node>,
+    /// The edges between them.
     pub edges: Vec<Edge>,
     /// Whether what is told of the program is to stand below, since the nodes and edges don't say all of it.
     pub has_words: bool,
