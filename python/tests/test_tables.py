@@ -23,9 +23,9 @@ DEFINITIONS = """# Definitions
 
 ## Step
 
-*`one`: `Rules`. Source: CHR.*
+*Source: CHR.*
 
-A `Step` is one. In `one/Rules`: `Step`, `bound`.
+A `Step` is one.
 """
 
 
@@ -67,21 +67,14 @@ class Tables(unittest.TestCase):
         told = self.differences(self.tool.names())
         self.assertEqual(told, [f"docs/PROOF.md: {it} is no word of the code" for it in ("gone", "one::gone")])
 
-    def test_files_of_definitions(self) -> None:
-        """A file that is gone, a file of which the section names no word, and a word that is not defined there."""
-        told = self.differences(self.tool.definitions())
-        self.assertEqual(told, ["docs/DEFINITIONS.md: bound is not defined in one/Rules"])
-        self.write("docs/DEFINITIONS.md", "## Steps\n\n*`one`: `Rules`, `Gone`.*\n\nSteps, and `step`.\n")
-        told = self.differences(self.tool.definitions())
-        why = ("a section names one/Rules, and no word of it", "there is no file one/Gone")
-        self.assertEqual(told, [f"docs/DEFINITIONS.md: {it}" for it in why])
-
     def test_files_that_are_believed(self) -> None:
-        """Each file that a main contract reaches is at the head of a section, but for working words."""
+        """A file that a main contract reaches, and of which no word is named, is told; working words are not."""
         lines = "".join(f"crates/one/specs/{it}.antt: 1 definition\n" for it in ("Rules", "Others", "working/Ways"))
+        self.write("crates/one/specs/Others.antt", SPECS.replace("Step", "Other"))
         self.tool.believed = lambda *words: (lines, None)
         told = self.differences(self.tool.reached())
-        self.assertEqual(told, ["docs/DEFINITIONS.md: no section names the file one/Others, which is believed"])
+        why = "it names no word of the file one/Others, which is believed"
+        self.assertEqual(told, [f"docs/DEFINITIONS.md: {why}"])
         self.tool.believed = lambda *words: ("", "it ends with 1")
         self.assertEqual(self.differences(self.tool.reached()), ["docs/DEFINITIONS.md: it ends with 1"])
 
