@@ -128,5 +128,5 @@ class Process:
 
 
 def end_of(seconds: float | None) -> float | None:
-    """When so many seconds from now are over; None where there is no limit."""
+    """The time that is `seconds` from now; None where there is no limit."""
     return None if seconds is None else time.monotonic() + seconds

@@ -29,7 +29,7 @@ class StoreReader:
         self._kept = _NONE
 
     def atoms_of(self, text: str, names: int = 0) -> tuple[Atom, ...]:
-        """The named atoms of a store's text, in its order. Names that are known are so many, and are never changed."""
+        """The named atoms of a store's text, in its order. `names` is the number of known names, which never change."""
         # another thread may keep another text meanwhile
         kept = self._kept
         if kept.names != names:

@@ -19,49 +19,53 @@ TIMES = 4
 """Each input grows by so much."""
 
 RATIO = 8.0
-"""Its time may grow by so much then, halfway on a scale of ratios between what is linear and what is quadratic."""
+"""The greatest ratio by which its time may grow then, halfway on a scale of ratios between what is linear and what is
+quadratic."""
 
 FLOOR = 0.008
 """Shorter times, in seconds, are taken for this one, ten times what it takes to start the program."""
 
 DISORDER, DISORDERED = 30.0, 10_000
-"""So many atoms that two orders compare may take so many times what they take in the order of one of these, where they
-come in none: they are put in that order before a rest. Some three times are usual."""
+"""How many times as long atoms that two orders compare may take where they come in no order as where they come in the
+order of one of these, and how many atoms there are. They are put in that order before a rest; some three times are
+usual."""
 
 RUNS, MOST_RUNS = 3, 15
-"""The least time of so many runs counts; of more only where those have not shown what is wanted."""
+"""How many runs are made, of which the least time counts, and how many at most: more only where those have not shown
+what is wanted."""
 
 ROOMS = (*range(5_500, 8_000, 250), *range(8_000, 20_001, 3_000))
 """Limits of a run's address space in KB. Under the lesser ones most inputs are refused memory."""
 
 SQUARE = 32.0
-"""The time of three heads whose guards stand apart may grow by so much: halfway between the square and the cube."""
+"""The greatest ratio by which the time of three heads whose guards stand apart may grow: halfway between the square and
+the cube."""
 
 SPACED, SPACED_TELLS = 1.5, 100_000
-"""So many times what tells of so many atoms take may they take with a space after each comma, as Python writes them."""
+"""How many times as long tells may take with a space after each comma, as Python writes them, and of how many atoms."""
 
 EXPLAINED, EXPLAINED_SYMBOLS = 3.0, 32
-"""So many times what the check of an accepted program of so many symbols with two rules each takes, with more than
-800,000 joint cases, may its explanation take."""
+"""How many times as long as its check the explanation of an accepted program may take, and the number of its symbols,
+with two rules each. It has more than 800,000 joint cases."""
 
 THREAD_ROOMS = (16_000, 66_000, 131_000, 200_000, 300_000)
 """Limits under which the threads of a verdict get no heaps of their own, or not all of them do."""
 
 MORE_TIMES, MORE_SECONDS = 3.0, 0.1
-"""Under each of them a run may take so many times what it takes without, and so many seconds."""
+"""How many times as long as without a limit a run may take under each of them, and how many seconds more."""
 
 SHOWN = 200_000
-"""So many atoms are shown, and not."""
+"""How many atoms are told, and shown or not."""
 
 BYTES_SHOWN = 48
-"""So many bytes more an atom of one argument may take where it is shown, some 11 of its text among them, and 24 where
+"""How many bytes more an atom of one argument may take where it is shown, some 11 of its text among them, and 24 where
 the arguments are first put in order. A bag of atoms would take 64 alone."""
 
 LINES, ROOM_OF_ONE, ROOM_OF_TWO = 80_000, 16_000, 60_000
-"""A run of so many lines of 1,000 bytes gets so many KB of address space."""
+"""The number of lines of 1,000 bytes of a run, and the KB of address space that it gets, by one worker and by two."""
 
 LONGEST = 10
-"""A run is ended after so many seconds of processor time."""
+"""The seconds of processor time after which a run is ended."""
 
 WANT_OF_MEMORY = 4
 
@@ -122,7 +126,7 @@ def doubled_keys(count: int) -> str:
 
 
 def unfolded(word: int, places: int) -> int:
-    """The word of which this one comes by folding its high bits down by so many places."""
+    """The word of which this one comes by folding its high bits down by `places` places."""
     found = word
     for _ in range(64 // places):
         found = word ^ (found >> places)
@@ -273,7 +277,7 @@ def shows_after_deaths(count: int) -> str:
 
 
 def best_of_each(count: int) -> str:
-    """So many symbols, and of each the greatest value of a key is kept, with all that tie."""
+    """`count` symbols, and of each the greatest value of a key is kept, with all that tie."""
     symbols = [f"b{number}" for number in range(count)]
     rules = " ".join(
         f"{it}(K,X,T) \\ {it}(K,X,T) <=> true. {it}(K,X,T) \\ {it}(K,Y,U) <=> X > Y | true." for it in symbols

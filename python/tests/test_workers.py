@@ -52,8 +52,8 @@ def shortest(all_routes: Iterable[Route]) -> str:
     return ", ".join(f"path({start},{end},{lengths[start, end]})" for start, end in sorted(lengths))
 
 
-# So many bytes come from a file at once, and are in the first block of lines; so many are in a block at most; so many
-# lines of a block are read ahead at most; and of a block of so many bytes or more tells are rested by who reads them.
+# How many bytes come from a file at once, and are in the first block of lines; how many bytes a block has at most; how
+# many lines of a block are read ahead at most; from how many bytes of a block on its reader rests its tells.
 READ = 16_384
 BLOCK = 524_288
 MOST_LINES = 65_536

@@ -15,21 +15,21 @@ from chrrep.node import program_path
 from test_costs import PATHS, PLAIN, SAME, links_of_one_node, shown
 
 SECONDS = 60
-"""A run is ended after so many seconds of a clock, and takes a tenth of one."""
+"""The seconds of a clock after which a run is ended. It takes a tenth of one."""
 
 ROOMS = (40, 110, 200, 600, None)
 """Limits of a run's address space in MiB. A thread's stack and heap take much of it, and of memory little."""
 
 WORKERS = (2, 4, 16)
 RUNS, MORE_RUNS = 2, 6
-"""So many runs are made of each kind, and so many more at most, in turns with runs by one worker, until one takes no
+"""How many runs are made of each kind, and how many more at most, in turns with runs by one worker, until one takes no
 longer than it may: the machine does other work, which takes time of some runs."""
 
 TIMES, MORE_SECONDS = 1.5, 0.1
-"""So many times what one worker takes, and so many seconds of processor time."""
+"""How many times as long as by one worker a run may take, and how many seconds of processor time more."""
 
 MOST_FOR_A_WORKER = 10_000
-"""So many KiB above one worker's for each of them."""
+"""How many KiB more than one worker a run may take for each of its workers."""
 
 METER = """
 import os, resource, signal, sys

@@ -269,7 +269,7 @@ class FolderMember(Closing):
 
     def follow(self, wait: float = 0.0) -> int:
         """Says by 1 that some file of the folder was written since this was asked last, and by 0 that none was; waits
-        for one, up to so many seconds."""
+        for one, up to `wait` seconds."""
         end = time.monotonic() + wait
         while True:
             now, newest = self._looked()

@@ -32,7 +32,7 @@ class Watch:
         self._text = "true"
 
     def look(self, wait: float = 0.0) -> Change | None:
-        """What came and went since the last look, at first all that is there; None where that is nothing for so many
+        """What came and went since the last look, at first all that is there; None where that is nothing for `wait`
         seconds."""
         end = time.monotonic() + wait
         while True:
@@ -45,7 +45,7 @@ class Watch:
             self._member.follow(min(left, LOOK_SECONDS))
 
     def changes(self, wait: float | None) -> Iterator[Change]:
-        """Each change, until there is none for so many seconds; or for ever."""
+        """Each change, until there is none for `wait` seconds; for ever where that is None."""
         while True:
             change = self.look(LOOK_SECONDS if wait is None else wait)
             if change:

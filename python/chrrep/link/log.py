@@ -268,8 +268,8 @@ class Busy(Exception):
 
 
 def in_turn(lock: "threading._RLock", seconds: float, call: Callable[P, T], *values: P.args, **named: P.kwargs) -> T:
-    """The call's result, made by one thread at a time; `Busy` where others take longer than so many seconds. Wherever
-    an interrupt comes, as by Ctrl-C, the lock is free afterwards."""
+    """The call's result, made by one thread at a time; `Busy` where others take longer than `seconds`. Wherever an
+    interrupt comes, as by Ctrl-C, the lock is free afterwards."""
     try:
         # an interrupt may come once it was taken, and before anything tells so; a lock that is free costs no timeout
         if not lock.acquire(False) and not lock.acquire(timeout=max(0.0, seconds)):
@@ -381,7 +381,7 @@ class Link(Closing):
     @abstractmethod
     def read(self, after: Position, wait: float = 0.0) -> Reading:
         """Entries beyond the position, of each origin the first `READ_AT_ONCE` at most, by rising numbers. Where there
-        are none it waits for one, up to so many seconds."""
+        are none it waits for one, up to `wait` seconds."""
 
     @abstractmethod
     def newest(self) -> dict[int, int]:

@@ -274,7 +274,7 @@ class Member(Closing):
     def changes(self, wait: float | None = None) -> Iterator[Change]:
         """What came into the store at rest and went from it, each time that it has changed; at first all that it has.
 
-        It ends where nothing has changed for so many seconds; left out, never.
+        It ends where nothing has changed for `wait` seconds; without `wait`, never.
         """
         return Watch(self).changes(wait)
 

@@ -187,7 +187,7 @@ class _Connection:
         self._end = 0.0
 
     def use(self, call: Callable[[], T], seconds: float) -> T:
-        """The call's result, within so many seconds; OperationalError where the connection is lost."""
+        """The call's result, within `seconds`; OperationalError where the connection is lost."""
         end = time.monotonic() + seconds
 
         def used() -> T:
@@ -212,7 +212,7 @@ class _Connection:
         self._made.notifies.clear()
 
     def listen(self, seconds: float) -> None:
-        """Waits for a notice, for so many seconds."""
+        """Waits for a notice, for `seconds` at most."""
         assert self._made
         end = time.monotonic() + seconds
         self._made.poll()

@@ -139,7 +139,7 @@ class Replica:
         self.node.close()
 
     def _give(self, text: str, count: int) -> None:
-        """Gives the node the first of what it has yet to be given, which are so many and have this text."""
+        """Gives the node the first `count` batches that it has yet to be given, which have this text."""
         atoms = text.count("[") - _BRACKETS * sum(len(one.texts) for one in self._owed[:count])
         self._make_room(atoms)
         try:
@@ -192,7 +192,7 @@ class Replica:
         return []
 
     def _make_room(self, atoms: int) -> None:
-        """Renews the node where so many atoms more would be too many. `Full` where its store alone is so large."""
+        """Renews the node where it has no room for `atoms` atoms more. `Full` where its store alone leaves none."""
         if self.told + atoms > TOLD_LIMIT and self.told > self._begun_with:
             self._go_on_from(self.node.show_text())
             _LOG.info("a node that was nearly full was renewed: %d atoms are told", self.told)
