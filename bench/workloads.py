@@ -18,7 +18,7 @@ Fact = tuple[str | int, ...]
 VALUES = 10**9
 HALVES = 16
 ROOM = 1000
-"""So many ends have the routes that are shown again and again."""
+"""How many ends the routes have that are shown again and again."""
 
 LEAST = ":- chr_constraint least/1.\nleast(X) \\ least(Y) <=> X =< Y | true.\n"
 EQUAL = ":- chr_constraint fact/1.\nfact(X) \\ fact(X) <=> true.\n"
@@ -105,17 +105,17 @@ def one_in_four(n: int, i: int, rng: random.Random) -> Fact:
 
 @dataclass(frozen=True)
 class Workload:
-    """What it is, its program, the fact of each place among so many, and how they are told."""
+    """What it is, its program, the fact of each place among a number of facts, and how they are told."""
 
     title: str
     program: str
     fact: Callable[[int, int, random.Random], Fact]
     each: int = 64
-    """So many facts are in an operation."""
+    """How many facts are in an operation."""
     becomes: int = 1
-    """Each fact becomes so many by steps, and N counts these."""
+    """How many facts each fact becomes by steps; N counts these."""
     replicas: int = 1
-    """They are told to so many in turn, which then exchange them twice round a ring."""
+    """How many replicas they are told to in turn, which then exchange them twice round a ring."""
     mixed: bool = False
     """They come in no order."""
     shown: bool = False

@@ -45,7 +45,7 @@ MOST_TOLD = 20
 """Differences of one process, after which it ends."""
 
 SETS = 16
-"""So many sets of lines an accepted text is given."""
+"""How many sets of lines an accepted text is given."""
 
 Words = tuple[str, ...]
 

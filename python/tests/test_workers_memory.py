@@ -71,7 +71,7 @@ def run_of(given: Path, workers: int, room: int | None) -> End:
 
 
 def merges(count: int, each: int) -> Iterator[str]:
-    """Lines of so many operations."""
+    """Lines that merge `count` operations, `each` in a line."""
     for start in range(0, count, each):
         delta = [[[1, number], [["a", number % 7]]] for number in range(start, min(count, start + each))]
         yield json.dumps(["merge", 1, delta], separators=(",", ":"))
@@ -136,7 +136,7 @@ class Measured:
         return max(end.peak for end in self.ends) + workers * MOST_FOR_A_WORKER
 
     def slowness(self, workers: int, least: float) -> str | None:
-        """That each run by several workers takes longer than it may, of which the least so far took so many seconds."""
+        """That each run by several workers takes longer than it may, with the seconds of the least so far."""
         most = TIMES * max(end.seconds for end in self.ends) + MORE_SECONDS
         for _ in range(MORE_RUNS):
             if least <= most:

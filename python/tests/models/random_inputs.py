@@ -109,7 +109,7 @@ def random_program(chance: random.Random) -> Program:
 
 
 class Lines:
-    """Lines for a program with so many replicas."""
+    """Lines for a program with `replicas` replicas."""
 
     def __init__(self, chance: random.Random, symbols: list[tuple[str, int]], replicas: int) -> None:
         self.chance, self.replicas = chance, replicas

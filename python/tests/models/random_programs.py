@@ -15,10 +15,10 @@ RECORD_SHAPES = ((1, 1), (1, 1), (1, 1), (0, 2), (1, 2))
 """The numbers of kept and removed heads of a rule of records."""
 
 VALUES = 4
-"""So many values stand in a store."""
+"""How many values stand in a store."""
 
 BODIES = 3
-"""So many bodies are tried for one that weighs less than the removed heads; else it is these: the rule is refused."""
+"""How many bodies are tried for one that weighs less than the removed heads; else it is these: the rule is refused."""
 
 
 @dataclass

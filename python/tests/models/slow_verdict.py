@@ -207,14 +207,14 @@ def rooms(constants: list[int]) -> list[int]:
 
 
 def spread(count: int, constants: list[int]) -> Iterator[tuple[int, ...]]:
-    """How many different values may lie in each room, in all at most so many."""
+    """How many different values may lie in each room, in all at most `count`."""
     for numbers in itertools.product(*(range(min(room, count) + 1) for room in rooms(constants))):
         if sum(numbers) <= count:
             yield numbers
 
 
 def type_count(count: int, constants: list[int]) -> int:
-    """The number of order types of so many values among the constants."""
+    """The number of order types of `count` values among the constants."""
     found = 0
     for numbers in spread(count, constants):
         new = sum(numbers)
@@ -262,13 +262,13 @@ class Sort:
     """Those that stand there and those that a guard compares with variables of the sort, rising."""
 
     def count(self, classes: int) -> int:
-        """The number of lists of values of so many classes."""
+        """The number of lists of values of `classes` classes."""
         if self.ordered:
             return type_count(classes, list(self.constants))
         return block_count(classes, len(self.constants)) if self.unequal else 1
 
     def lists(self, classes: int) -> list[tuple[int, ...]]:
-        """The lists of values of so many classes, which stand for all that there are."""
+        """The lists of values of `classes` classes, which stand for all that there are."""
         if self.ordered:
             return representatives(classes, list(self.constants))
         new = tuple(itertools.islice((value for value in itertools.count() if value not in self.constants), classes))
@@ -434,7 +434,7 @@ class TooSlow(Exception):
 
 
 class TooManyTypes(Exception):
-    """The overlap has more lists of values of so many free classes than a verdict looks at."""
+    """The overlap has more lists of values of its free classes than a verdict looks at."""
 
     def __init__(self, free: int) -> None:
         super().__init__()

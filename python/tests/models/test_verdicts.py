@@ -27,7 +27,7 @@ from slow_verdict import (
 
 SEED = 17
 PROGRAMS = int(os.environ.get("CHRREP_PROGRAMS", "3000"))
-"""So many of a kind are judged; below 500 some kinds of verdict may be missing, which is a failure too."""
+"""How many programs of a kind are judged; below 500 some kinds of verdict may be missing, which is a failure too."""
 LONG_PROGRAMS = PROGRAMS // 10
 AGREED_PROGRAMS = max(PROGRAMS // 5, 200)
 MOST_TYPES = 600

@@ -50,11 +50,11 @@ class Engine(ABC):
 
     @abstractmethod
     def write_lease(self, log: str, origin: int, seconds: float) -> None:
-        """Has a link that isn't there hold an origin for so many seconds from now on."""
+        """Has a link that isn't there hold an origin for `seconds` from now on."""
 
     @abstractmethod
     def write_seal(self, log: str, seconds: float) -> None:
-        """Has a link that isn't there have others wait for so many seconds from now on."""
+        """Has a link that isn't there have others wait for `seconds` from now on."""
 
     @abstractmethod
     def write_entry(self, log: str, origin: int, number: int, atoms: str | bytes) -> None:

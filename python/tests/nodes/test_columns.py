@@ -75,7 +75,7 @@ class Names(unittest.TestCase):
             self.assertEqual((columns.named, columns.faults, columns.first()), ({}, [], None), text)
 
     def test_many_that_are_wrong(self) -> None:
-        """A text is at most 65,536 bytes, and so many lines are looked at in a moment."""
+        """A text of at most 65,536 bytes is looked at in a moment, however many lines it has."""
         columns = Columns(b"%chr_columns\n" * 5000)
         self.assertEqual((len(columns.faults), columns.faults[-1][:8]), (20, "line 20:"))
         deep = Columns(b"% chr_columns " + b"a(" * 30_000)

@@ -40,7 +40,7 @@ def die_soon(step: str) -> None:
 
 
 class Wound:
-    """Has a step end the process when it comes for the last of so many times."""
+    """Has a step end the process when it has come for the given number of times."""
 
     def __init__(self, step: str, count: int) -> None:
         self.step, self.left = step, count
@@ -92,7 +92,7 @@ class Wound:
 
 
 def renew_often() -> None:
-    """Has each node renewed after so many atoms beyond what it began with."""
+    """Has each node renewed after this number of atoms beyond what it began with."""
     plain = Replica._go_on_from
 
     def go_on_from(self: Replica, store: str) -> None:

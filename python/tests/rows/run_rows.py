@@ -664,7 +664,7 @@ CUTS = (
     (range(24, 51), "refused 11: clause 2\n"),
     (range(51, 52), "accepted: rules 1, cases 17\n"),
 )
-"""So many bytes of the text, and the verdict."""
+"""The number of bytes of the text, and the verdict."""
 
 HOSTILE_LINES = (
     ('["tell",1,[5,9],[["a",2]]]', "told"),

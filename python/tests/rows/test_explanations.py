@@ -32,7 +32,7 @@ WORKERS = os.cpu_count() or 1
 
 SEED = 40
 PROGRAMS = int(os.environ.get("CHRREP_PROGRAMS", "3000"))
-"""So many random programs are explained of each kind."""
+"""How many random programs are explained of each kind."""
 SYMBOLS = "abcd"
 MAX_BODY = 4
 DECLARED = ":- chr_constraint a/0, b/0, c/0, d/0.\n"

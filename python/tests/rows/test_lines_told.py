@@ -258,7 +258,7 @@ def can_go_on(front: bytes) -> bool:
 
 
 def refused_by(given: bytes, replicas: int) -> dict[int, int]:
-    """By which number a run with so many replicas refuses lines for what they say, by the model."""
+    """By which number a run with `replicas` replicas refuses lines for what they say, by the model."""
     text, lines = parts(given)
     world = World(read(text), [{} for _ in range(replicas)])
     first = text.count(b"\n") + 2

@@ -120,7 +120,7 @@ def shown(text: bytes) -> str:
 
 
 def different_rules(count: int) -> bytes:
-    """An accepted program of so many rules, none of which is a copy of another one."""
+    """An accepted program of `count` rules, none of which is a copy of another one."""
     guards = [f"X {one} 1, X {other} 2" for one, other in itertools.product(SIGNS, SIGNS)]
     guards += [f"X {one} 1, X {other} 2, X =\\= 3" for one, other in itertools.product(SIGNS, SIGNS)]
     names = [f"a{number}" for number in range(count)]

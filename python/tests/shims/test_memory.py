@@ -27,11 +27,11 @@ WITHOUT_WEIGHTS = b"A search of at most 400 steps found neither weights for all 
 BEFORE_PROPOSALS = b"under which only one of the two steps is possible.\n"
 
 EACH = 20
-"""So many growths of an example are refused one by one. Later ones are chosen at random, farther and farther apart."""
+"""How many growths of an example are refused one by one. Later ones are chosen at random, farther and farther apart."""
 APART = 3
 
 REFUSED = int(os.environ.get("CHRREP_REFUSED", "0"))
-"""So many of the examples are tried, evenly apart; all where it is 0."""
+"""How many of the examples are tried, evenly apart; all where it is 0."""
 
 MOST_CASES = 25_000
 """Of an accepted example with more cases the run alone is tried, since each verdict takes its time."""
