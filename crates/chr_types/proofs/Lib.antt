@@ -11,6 +11,7 @@ pub mod OneList
 pub mod TooMany
 pub mod ConstantLists
 pub mod BesideFirst
+pub mod Spread
 pub mod Ways
 pub mod Steps
 pub mod Members

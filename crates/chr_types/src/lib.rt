@@ -5,6 +5,7 @@
 //! visits them one after the other.
 #![tactic(auto)]
 
+mod bounds;
 mod candidates;
 mod counting;
 mod fault;
