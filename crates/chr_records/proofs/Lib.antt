@@ -1,3 +1,4 @@
 pub mod Scans
 pub mod Sealed
 pub mod Changes
+pub mod ByteSteps
