@@ -19,7 +19,7 @@ from functools import partial, wraps
 from types import TracebackType
 from typing import Any, Concatenate, ParamSpec, Self, TypeVar
 
-from .link.following import LOOK_SECONDS, Watch
+from .link.following import LOOK_SECONDS
 from .link.log import LOG_NAME, PATIENCE, Link
 from .link.member import SNAPSHOT_AFTER, Member
 from .link.member import join as link_join
@@ -200,7 +200,7 @@ class AsyncMember:
 
     async def changes(self, wait: float | None = None) -> AsyncIterator[Change]:
         """As `Member.changes`."""
-        watch = Watch(self.member)
+        watch = self.member.watch()
         while True:
             change = await self._waits.call(watch.look, LOOK_SECONDS if wait is None else wait)
             if change:

@@ -7,6 +7,7 @@ import select
 import subprocess
 import time
 from contextlib import suppress
+from typing import IO
 
 from .refusals import NodeDied
 
@@ -39,9 +40,10 @@ class Process:
     is_deaf = False
     """Whether it was found that the program reads no more."""
 
-    def __init__(self, words: list[str]) -> None:
+    def __init__(self, words: list[str], errors: IO[bytes] | None = None) -> None:
+        """Begins the program, whose standard error goes to a file where one is given."""
         self._process = subprocess.Popen(
-            words, stdin=subprocess.PIPE, stdout=subprocess.PIPE, bufsize=0, start_new_session=True
+            words, stdin=subprocess.PIPE, stdout=subprocess.PIPE, stderr=errors, bufsize=0, start_new_session=True
         )
         assert self._process.stdin and self._process.stdout
         self._input, self._output = self._process.stdin.fileno(), self._process.stdout.fileno()
@@ -60,11 +62,11 @@ class Process:
         """The id of the process."""
         return self._process.pid
 
-    def send(self, line: bytes, end: float | None) -> None:
-        """Sends a line, after which one more answer is owed."""
+    def send(self, lines: bytes, end: float | None, count: int = 1) -> None:
+        """Sends a line, or so many, for each of which an answer is owed then."""
         self.is_waiting = False
-        self.owed += 1
-        self._left = memoryview(line)
+        self.owed += count
+        self._left = memoryview(lines)
         self.flush(end)
 
     def flush(self, end: float | None) -> None:

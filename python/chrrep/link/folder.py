@@ -6,24 +6,28 @@ import os
 import secrets
 import tempfile
 import threading
-import time
 import weakref
 from collections.abc import Callable, Iterable, Iterator, Sequence
 from contextlib import contextmanager, suppress
 from functools import cached_property
+from itertools import takewhile
 from pathlib import Path
-from typing import Any, TypeAlias
+from typing import IO, Any, TypeAlias, TypeVar
 
-from ..closing import Closing
-from ..columns import Columns
-from ..names import Names, named_text, number_of, numbered
+from ..columns import Columns, ColumnsWarning, Orders, OrderWarning, warn
+from ..names import named_text, number_of, numbered
 from ..node import ANSWER_SECONDS, Timeout, Unasked, UNASKED, check, program_path
 from ..process import Late, Process, end_of
-from ..refusals import BadLine, ChrrepError, Clash, Full, NodeDied, Refused, Shape, UnknownSymbol, WrongProcess
-from ..texts import Atom, Change, Id, ProgramText, atoms_text, changes_between, line_of, program_bytes, store_text
+from ..refusals import BadLine, Clash, Full, NodeDied, Refused, Shape, UnknownSymbol, WrongProcess
+from ..texts import Atom, Change, Id, ProgramText, Verdict, atoms_text, line_of, program_bytes
 from ..words import Wanted, check_pattern, shape_fault, symbol_fault
-from .faults import LogUnusable, NoProgram, OtherProgram
-from .following import Following, Watch
+from .any_member import AnyMember
+from .faults import LogUnusable, NoProgram, OriginShared, OtherProgram
+from .feeds import Looks, Tails, kept_ids
+from .kept_names import KeptNames
+from .log import Entry, Program
+from .shown import FolderWatch, Shown
+from .telling import FolderTell, Sent, tell_of
 
 PREFIX = "dir:///"
 """What the address of a folder begins with."""
@@ -34,20 +38,18 @@ BATCH_BYTES = 48_000
 """Bytes of lines that are sent at once, unless one line alone has more."""
 RENEWALS = 3
 """How often a call begins the node anew that was killed."""
-LOOK_SECONDS = 0.01
-"""How long the folder isn't looked at again."""
-FRESH_SECONDS = 0.05
-"""A file that was written so lately may be written once more within one tick of its clock."""
+LAST_ORIGIN = 2**32 - 1
 
-_CHECKSUM = 9
-"""The bytes of a record's text before its operations: eight digits and a space."""
 _OF_LINES: dict[int, type[Refused]] = {
     30: BadLine, 31: Shape, 32: UnknownSymbol, 33: Clash, 34: Full, 43: Shape, 44: UnknownSymbol
 }
+_SAYS = "chrrep node: "
 _LOG = logging.getLogger("chrrep.link")
 
 Answer: TypeAlias = list[Any]
 """A line of the node: a word, and what it says."""
+
+T = TypeVar("T")
 
 
 def folder_of(url: str) -> Path:
@@ -59,138 +61,62 @@ def folder_of(url: str) -> Path:
     return Path(path)
 
 
-def records_in(feed: bytes) -> Iterator[bytes]:
-    """The texts of the whole records of a feed."""
-    for line in feed.split(b"\n")[:-1]:
-        if not line.startswith(b"=") or b"\0" in line:
-            return
-        yield line[1:]
-
-
-def ids_in(feed: bytes, origin: int) -> list[Id]:
-    """The ids of an origin that a feed tells, in their order."""
-    ids: list[Id] = []
-    for text in records_in(feed):
-        # of whole records each is a delta of version 2
-        _, origins = json.loads(text[_CHECKSUM:])
-        ids += (Id(origin, number) for one, operations in origins if one == origin for number, _ in operations)
-    return ids
-
-
-class KeptNames:
-    """The names that are told to a folder, in files beside its feeds: a line of JSON each.
-
-    Each member writes one file of its own, and reads all. A name is on the disk before the fact that has it is told.
-    """
-
-    def __init__(self, folder: Path) -> None:
-        self._folder = folder
-        self._known = Names()
-        self._kept: set[str] = set()
-        self._read: dict[str, int] = {}
-        self._file: int | None = None
-
-    def keep(self, atoms: Iterable[Atom]) -> None:
-        """Has the disk keep the names among the arguments of atoms. Raises `NameClash` and `NameFault`."""
-        self.learn()
-        found = self._known.of(atoms)
-        new = [name for name in found.values() if name not in self._kept]
-        if new:
-            text = "".join(json.dumps(name) + "\n" for name in new)
-            file = self._opened()
-            os.write(file, text.encode())
-            os.fsync(file)
-            self._known.learn(found.items())
-            self._kept.update(new)
-
-    def learn(self) -> None:
-        """Takes in the names that others have told."""
-        with suppress(FileNotFoundError):
-            for entry in os.scandir(self._folder):
-                if entry.name.endswith(".names"):
-                    self._learn_file(entry)
-
-    def named(self, atoms: Iterable[Atom]) -> tuple[Atom, ...]:
-        """The atoms with names in the place of numbers."""
-        return self._known.named(atoms)
-
-    def close(self) -> None:
-        if self._file is not None:
-            os.close(self._file)
-            self._file = None
-
-    def _learn_file(self, entry: "os.DirEntry[str]") -> None:
-        at = self._read.get(entry.name, 0)
-        if entry.stat().st_size <= at:
-            return
-        with open(entry.path, "rb") as file:
-            file.seek(at)
-            whole, end, _ = file.read().rpartition(b"\n")
-        names = [json.loads(line) for line in whole.split(b"\n") if line]
-        self._known.learn((number_of(name), name) for name in names)
-        self._kept.update(names)
-        self._read[entry.name] = at + len(whole) + len(end)
-
-    def _opened(self) -> int:
-        """The file of this member, which is made at its first name."""
-        if self._file is None:
-            self._folder.mkdir(exist_ok=True)
-            path = self._folder / f"{secrets.token_hex(8)}.names"
-            self._file = os.open(path, os.O_WRONLY | os.O_APPEND | os.O_CREAT | os.O_EXCL | os.O_CLOEXEC, 0o644)
-            for folder in (self._folder, self._folder.parent):
-                _sync_folder(folder)
-        return self._file
-
-
-def _sync_folder(folder: Path) -> None:
-    at = os.open(folder, os.O_RDONLY)
-    try:
-        os.fsync(at)
-    finally:
-        os.close(at)
-
-
-class FolderMember(Closing):
+class FolderMember(AnyMember):
     """A node over a folder, which keeps its facts there, and takes what others tell there.
 
     `program` is what a `Node` takes; left out, it is the folder's. A folder that isn't there yet is made with it; for
     one that is there another program is `OtherProgram`. What was told is on the disk. Any number of members may have
     one folder, and feeds may be copied into it from other folders of the program, by any means and at any time.
 
-    A node that is killed is begun anew: what it was being told is looked up in its feed, and told once more only where
-    it isn't there. Calls may come from any thread. Leaving a `with` ends the node.
+    A node that is killed, or whose answer is cut off by an interrupt, is begun anew: what it was being told is looked
+    up in its feed, and told once more only where it isn't there. `origin` is that of the first of these nodes, and of
+    no other run of the folder. Calls may come from any thread. Leaving a `with` ends the node.
     """
 
     _process: Process
     _dropped: Any
-    """Ends the process, once."""
+    """Ends the node's process, once."""
+    _errors: IO[bytes]
+    """What the node's process says of what goes wrong."""
     _origin: int
-    _told = 0
+    _told: int
     """How many operations the node's process was told."""
-    _down: NodeDied | None = None
-    """How the node's process has ended, until it is begun anew."""
+    _is_up = False
+    """Whether the node's process is there, and no exchange with it was cut off."""
 
     def __init__(
         self,
         path: str | os.PathLike[str],
         program: ProgramText | None = None,
         *,
+        origin: int | None = None,
         wide: bool | None = None,
         chrrep: str | os.PathLike[str] | None = None,
         timeout: Timeout = UNASKED,
     ) -> None:
+        if origin is not None and not 0 <= origin <= LAST_ORIGIN:
+            raise ValueError(f"an origin is a number from 0 to {LAST_ORIGIN}")
         self.path = Path(path)
-        self._feeds = self.path / "feeds"
+        self.feeds = self.path / "feeds"
+        self.shown = Shown()
+        self.tells = 0
         self._lock = threading.RLock()
         self._pid = os.getpid()
         self._wide = wide
         self._chrrep = chrrep
         self._first_limit, self._limit = (None, ANSWER_SECONDS) if isinstance(timeout, Unasked) else (timeout, timeout)
         self._names = KeptNames(self.path / "names")
-        self._seen: object = None
+        self._looks = Looks(self.feeds)
+        self._tails: Tails | None = None
+        self._listeners: list[Callable[[Sequence[Entry]], object]] = []
         self._ended: NodeDied | None = None
-        text = None if program is None else program_bytes(program)
-        self._begin(text)
+        self._brought = None if program is None else program_bytes(program)
+        if self._brought is not None and wide is False:
+            check(self._brought, chrrep, wide=False)
+        self._begin(self._brought, origin)
+        self._orders = Orders(self.columns)
+        for fault in self.columns.faults:
+            warn(f"the program names columns in vain: {fault}", ColumnsWarning)
 
     @property
     def origin(self) -> int:
@@ -199,52 +125,71 @@ class FolderMember(Closing):
 
     @property
     def pid(self) -> int:
-        """The id of the node's process."""
+        """The id of the node's process, which is another one after it was begun anew."""
         return self._process.pid
+
+    @cached_property
+    def program(self) -> Program:
+        """The program as it was brought, or else as the folder has it."""
+        text = program_bytes(self.path / "program.chr") if self._brought is None else self._brought
+        return Program(text, self._wide)
+
+    @cached_property
+    def verdict(self) -> Verdict:
+        """What is said of the program, which is judged once more for that."""
+        return check(self.program.text, self._chrrep, wide=self._wide)
 
     @cached_property
     def columns(self) -> Columns:
         """What the program's text tells of symbols and their columns."""
-        return Columns((self.path / "program.chr").read_bytes())
+        return Columns(self.program.text)
 
-    def tell(self, *atoms: Atom) -> Id:
+    @property
+    def refused(self) -> int:
+        """How many files of the folder are left alone: `status` names them."""
+        _, _, left, _, _ = self._ask(["status"])
+        return len(left)
+
+    def tell(self, *atoms: Atom, after: BaseException | None = None) -> Id:
         """Tells one operation of 1 to 64 atoms, and gives its id once the disk has it. Text as an argument is a name.
-        Raises what refuses it: nothing was told then."""
-        return self.tell_many([atoms])[0]
 
-    def tell_many(self, tells: Iterable[Iterable[Atom]]) -> list[Id]:
+        Raises what refuses it (`Shape`, `UnknownSymbol`, ..), `Full`, `NameClash`, `LogUnusable` and `NodeDied`. Each
+        says by `told` and `unsure` whether the operation is in the folder. Told `after` what was raised, the same
+        operation is not told twice.
+        """
+        return self.tell_many([atoms], after=after)[0]
+
+    def tell_many(self, tells: Iterable[Iterable[Atom]], *, after: BaseException | None = None) -> list[Id]:
         """Tells operations as `tell` does, many at once, and gives their ids. Where one is refused those before it are
-        told, and the others are not: what is raised has the ids as `told`."""
-        operations = [list(atoms) for atoms in tells]
-        texts = [atoms_text([numbered(atom) for atom in atoms]) for atoms in operations]
-        with self._lock:
-            self._names.keep(atom for atoms in operations for atom in atoms if isinstance(atom, (tuple, list)) and atom)
-            ids: list[Id] = []
-            deaths = 0
-            while len(ids) < len(texts):
-                before = len(ids)
-                try:
-                    self._tell_some(texts, ids)
-                except ChrrepError as fault:
-                    fault.told = tuple(ids)
-                    deaths = deaths + 1 if len(ids) == before else 0
-                    if not isinstance(fault, NodeDied) or self._ended or deaths > RENEWALS:
-                        raise
-            return ids
+        told, and the others are not.
+
+        What is raised has the ids of those that are `told`, the first ones, and of those that are `unsure`, which
+        follow. `after` it the same operations are told on, and none of them twice.
+        """
+        self._check_process()
+        operations = [tuple(atoms) for atoms in tells]
+        tell = FolderTell(operations) if after is None else tell_of(after, operations, FolderTell)
+        try:
+            with self._lock:
+                self._go_on(tell)
+                return list(tell.told)
+        except BaseException as fault:
+            tell.leave_by(fault)
+            raise
 
     def show(self, symbol: str | None = None, *pattern: str | int | None) -> tuple[Atom, ...]:
         """The store at rest of all that is in the folder by now, or of it the atoms of a symbol, or those that have
         these arguments, None being any. A number whose name was told is given as the name."""
         with self._lock:
-            atoms = self._show(symbol, *pattern)
-            self._names.learn()
-            return self._names.named(atoms)
+            return self.named(self._show(symbol, *pattern))
 
     def count(self, symbol: str, *pattern: str | int | None) -> int:
         """How many atoms `show` gives."""
-        if not pattern:
+        numbers = self._numbers(symbol, pattern)
+        all_ = self.columns.symbols[symbol]
+        if not pattern and len(all_) > 1:
             return len(self.show(symbol))
-        answer = self._ask(["count", [symbol, *self._numbers(symbol, pattern)]])
+        answer = self._ask(["count", [symbol, *(numbers or [None] * all_[0])]])
         return int(answer[1])
 
     def show_text(self) -> str:
@@ -257,38 +202,49 @@ class FolderMember(Closing):
         _, feeds, left, told, at_rest = self._ask(["status"])
         return {"feeds": dict(feeds), "left": dict(left), "told": told, "at_rest": at_rest}
 
-    def changes(self, wait: float | None = None) -> Iterator[Change]:
-        """What came into the store at rest and went from it, each time that it has changed; at first all that it has.
-        It ends where nothing has changed for `wait` seconds, and never without."""
-        return Watch(self).changes(wait)
-
-    def following(self, call: Callable[[Change], object]) -> Following:
-        """A thread that follows the folder, and calls with each change of the store, at first with all that is there.
-        It ends with a `with`, or by `stop`."""
-        return Following(self, call)
-
     def follow(self, wait: float = 0.0) -> int:
-        """Says by 1 that some file of the folder was written since this was asked last, and by 0 that none was; waits
-        for one, up to `wait` seconds."""
-        end = time.monotonic() + wait
-        while True:
-            now, newest = self._looked()
-            if now != self._seen or abs(time.time() - newest) < FRESH_SECONDS:
-                self._seen = now
-                time.sleep(min(LOOK_SECONDS, max(0.0, end - time.monotonic())))
-                return 1
-            left = end - time.monotonic()
-            if left <= 0:
-                return 0
-            time.sleep(min(left, LOOK_SECONDS))
+        """Says by 1 that some file of the folder was written since this was asked last, or may have been, and by 0 that
+        none was; waits for one, up to so many seconds. A question shows what is there anyway."""
+        self._check_process()
+        is_new = self._looks.wait(wait)
+        if is_new and self._tails:
+            entries = self._tails.read()
+            for call in self._listeners if entries else ():
+                call(entries)
+        return int(is_new)
 
-    def change_from(self, before: str) -> tuple[Change, str]:
-        """What came and went since the store had this text, and the text that it has now; numbers for names there."""
+    def catch_up(self) -> int:
+        """As `follow`, without waiting."""
+        return self.follow()
+
+    def watch(self) -> FolderWatch:
+        """What looks at the store, again and again."""
+        return FolderWatch(self)
+
+    def hear(self) -> None:
+        """Has the node say what came and went, for those that watch."""
         with self._lock:
-            after = store_text(self._show())
-            self._names.learn()
-            change = changes_between(before, after)
-            return Change(self._names.named(change.came), self._names.named(change.went)), after
+            self._asked([b'["changes"]\n'], self._take_changes)
+
+    def listen(self, call: Callable[[Sequence[Entry]], object]) -> None:
+        """From now on has the call made with operations that are told in the folder, by `follow`. It is not to take
+        long, nor to call the member."""
+        with self._lock:
+            self._tails = self._tails or Tails(self.feeds)
+            self._listeners.append(call)
+
+    def named(self, atoms: Iterable[Atom]) -> tuple[Atom, ...]:
+        """The atoms with names in the place of numbers, as far as they were told by now."""
+        self._names.learn()
+        return self._names.named(atoms)
+
+    def going_over(self, call: Callable[[], T]) -> T:
+        """The call's result: a folder keeps its program."""
+        return call()
+
+    def rejoin(self) -> bool:
+        """Says that the program is the same: a folder keeps its program."""
+        return False
 
     def close(self) -> None:
         """Ends the node. To close twice is no fault. In a process that was forked nothing is done."""
@@ -299,28 +255,24 @@ class FolderMember(Closing):
             self._names.close()
             self._dropped()
 
-    def __iter__(self) -> Iterator[Atom]:
-        return iter(self.show())
-
     def __repr__(self) -> str:
         state = "ended" if self._ended else f"process {self.pid}"
         return f"<chrrep.link.FolderMember of {str(self.path)!r}, {state}>"
 
-    def _begin(self, text: bytes | None = None) -> None:
-        """Begins the node's process, under an origin that is drawn."""
-        self._origin = secrets.randbits(32)
+    def _begin(self, text: bytes | None = None, origin: int | None = None) -> None:
+        """Begins the node's process, under an origin that is drawn where none is given."""
+        self._origin = secrets.randbits(32) if origin is None else origin
         self._told = 0
-        self._down = NodeDied("the node never came up")
         words = [program_path(self._chrrep), "node", "--data", os.fspath(self.path), "--origin", str(self._origin)]
         words += ["--wide"] if self._wide else []
         with _file_of(text) as named:
-            self._process = Process([*words, *named])
+            self._errors = tempfile.TemporaryFile()
+            self._process = Process([*words, *named], self._errors)
             # a member that is dropped ends its process too
             self._dropped = weakref.finalize(self, self._process.close)
             _MEMBERS.add(self)
             try:
                 self._answers([b'["last"]\n'], self._first_limit)
-                self._down = None
             except NodeDied as died:
                 self._dropped()
                 self._raise_begun(died, text)
@@ -328,95 +280,176 @@ class FolderMember(Closing):
             except BaseException:
                 self._dropped()
                 raise
+        self._is_new = self._is_up = True
 
     def _raise_begun(self, died: NodeDied, text: bytes | None) -> None:
         """Says why a node has not begun."""
+        kept, said = self.path / "program.chr", self._said()
         if died.status == 1:
-            kept = self.path / "program.chr"
             check(kept.read_bytes() if text is None else text, self._chrrep, wide=self._wide)
+        if died.status == 2 and said.startswith("origin "):
+            raise OriginShared(self._origin) from died
         if died.status == 2:
-            kept = self.path / "program.chr"
             if not kept.is_file() and text is None:
                 raise NoProgram from died
             if kept.is_file() and text is not None and kept.read_bytes() != text:
                 raise OtherProgram(text, kept.read_bytes()) from died
         if died.status == 3:
-            raise LogUnusable(f"the folder {self.path} can't be used: chrrep node has said why") from died
+            raise LogUnusable(f"the folder {self.path} can't be used: {said}") from died
 
-    def _tell_some(self, texts: Sequence[str], ids: list[Id]) -> None:
-        """Tells some of what is left, and adds the ids of what is told then."""
+    def _said(self) -> str:
+        """What the node's process has said of what went wrong."""
+        self._errors.seek(0)
+        return self._errors.read(4096).decode(errors="replace").strip().removeprefix(_SAYS)
+
+    def _go_on(self, tell: FolderTell) -> None:
+        """Tells what is left of the operations of a call."""
+        self._find_told(tell)
+        rest = tell.rest
+        texts = [atoms_text([numbered(atom) for atom in atoms]) for atoms in rest]
+        self._keep_names([atom for atoms in rest for atom in atoms if self._is_declared(atom)])
+        begin, deaths = len(tell.told), 0
+        while (at := len(tell.told) - begin) < len(texts):
+            try:
+                self._tell_some(tell, texts[at:at + BATCH])
+            except NodeDied as died:
+                self._find_after(tell, died)
+                deaths = deaths + 1 if len(tell.told) - begin == at else 0
+                if not _is_killed(died) or deaths > RENEWALS:
+                    raise
+
+    def _keep_names(self, atoms: Sequence[Atom]) -> None:
+        """Has the disk keep the names of atoms, and says where they stand and their order counts."""
+        for said in self._orders.found(atoms):
+            warn(said, OrderWarning)
+        self._names.keep(atoms)
+
+    def _is_declared(self, atom: object) -> bool:
+        """Whether it is an atom of a symbol of the program."""
+        if not isinstance(atom, (tuple, list)) or not atom or not isinstance(atom[0], str):
+            return False
+        return len(atom) - 1 in self.columns.symbols.get(atom[0], ())
+
+    def _tell_some(self, tell: FolderTell, texts: Sequence[str]) -> None:
+        """Tells some of these operations, and takes notice of those that are told."""
         self._up()
-        at, size = len(ids), 0
+        lines = self._lines_of(texts)
+
+        def take(answers: list[Answer]) -> Answer | None:
+            ids = [Id(*answer[1]) for answer in takewhile(lambda answer: answer[0] != "refused", answers)]
+            # no call stands between these, and so no interrupt
+            self._told += len(ids)
+            self.tells += len(ids)
+            tell.settle(ids)
+            return answers[len(ids)] if len(ids) < len(answers) else None
+
+        tell.sent = Sent(self._origin, self._told)
+        refused = self._exchange(lines, take)
+        if refused:
+            self._raise_refused(refused, tell.rest[0])
+
+    def _lines_of(self, texts: Sequence[str]) -> list[bytes]:
+        """The lines that tell the first of these operations, as many as are sent at once."""
         lines: list[bytes] = []
-        for text in texts[at:at + BATCH]:
-            line = f'["tell",{self._told + len(lines) + 1},{text}]\n'.encode()
+        size = 0
+        for number, text in enumerate(texts, self._told + 1):
+            line = f'["tell",{number},{text}]\n'.encode()
             size += len(line)
             if lines and size > BATCH_BYTES:
                 break
             lines.append(line)
-        try:
-            answers = self._answers(lines, self._limit)
-        except NodeDied as died:
-            ids += self._after_death(died)[self._told:]
-            raise
-        for answer, text in zip(answers, texts[at:]):
-            if answer[0] == "refused":
-                self._raise_refused(answer, text)
-            ids.append(Id(*answer[1]))
-            self._told += 1
+        return lines
 
-    def _after_death(self, died: NodeDied) -> list[Id]:
-        """What the node that has ended was told: its feed says that. One that was killed is begun anew by the next
-        call."""
-        self._dropped()
-        self._down = died
-        if died.status is not None and died.status >= 0:
-            self._ended = died
-        _LOG.warning("the node of %s has ended: %s", self.path, died)
-        return [
-            id for path in self._feeds.glob(f"*-{self._origin:08x}-*.feed")
-            for id in ids_in(path.read_bytes(), self._origin)
-        ]
+    def _find_told(self, tell: FolderTell) -> None:
+        """Finds out which of the operations that a call was telling are told, where it was cut off."""
+        if not tell.sent:
+            return
+        if not self._is_up:
+            # it may go on with what it was sent
+            self._dropped()
+        try:
+            ids = kept_ids(self.feeds, tell.sent.origin)
+        except OSError as fault:
+            raise LogUnusable(f"the feed of origin {tell.sent.origin} can't be read: {fault.strerror}") from fault
+        tell.settle(ids[tell.sent.before:])
+
+    def _find_after(self, tell: FolderTell, died: NodeDied) -> None:
+        """Finds out which operations are told by a node that has ended. Of one whose disk failed its feed says only
+        which may be."""
+        if died.status is None or died.status < 0:
+            self._find_told(tell)
+        elif tell.sent:
+            with suppress(OSError):
+                tell.unsure = tuple(kept_ids(self.feeds, tell.sent.origin)[tell.sent.before:])
 
     def _up(self) -> None:
-        """Begins the node anew where it was killed."""
-        if self._down and not self._ended:
+        """Begins the node anew where it is needed."""
+        self._check_process()
+        if self._ended:
+            raise NodeDied(self._ended.what, self._ended.status)
+        if not self._is_up:
+            self._dropped()
             self._begin()
 
-    def _ask(self, words: list[object]) -> Answer:
-        """The answer to a line, from a node that is begun anew where it was killed; raises what it refuses."""
-        line = line_of(words)
+    def _exchange(self, lines: Sequence[bytes], take: Callable[[list[Answer]], T]) -> T:
+        """What is taken of the answers to lines. A node with which that was not seen through is ended."""
+        self._is_up = False
+        try:
+            taken = take(self._answers(lines, self._limit))
+        except NodeDied as died:
+            self._dropped()
+            if not _is_killed(died) and not isinstance(died.__cause__, Late):
+                self._ended = died
+            _LOG.warning("the node of %s has ended: %s", self.path, died)
+            raise
+        except BaseException:
+            self._process.kill()
+            raise
+        self._is_up = True
+        return taken
+
+    def _answers(self, lines: Sequence[bytes], limit: float | None) -> list[Answer]:
+        """The answers to lines, in time, or the node is ended."""
+        end = end_of(limit)
+        try:
+            self._process.send(b"".join(lines), end, len(lines))
+            return [json.loads(self._process.answer(end)) for _ in lines]
+        except Late as late:
+            raise NodeDied(f"the node gave no answer within {limit} seconds", self._process.kill()) from late
+        except NodeDied as died:
+            said = self._said()
+            raise NodeDied(f"the node died: {said}" if said else died.what, died.status) from None
+
+    def _asked(self, lines: Sequence[bytes], take: Callable[[list[Answer]], T]) -> T:
+        """What is taken of the answers to lines, from a node that is begun anew where it was killed."""
         with self._lock:
             for left in reversed(range(RENEWALS)):
                 try:
                     self._up()
-                    answer, = self._answers([line], self._limit)
-                    break
+                    return self._exchange(lines, take)
                 except NodeDied as died:
-                    self._after_death(died)
-                    if self._ended or not left:
+                    if not left or not _is_killed(died):
                         raise
+        raise AssertionError("the last try raises")
+
+    def _ask(self, words: list[object]) -> Answer:
+        """The answer to a line; raises what it refuses."""
+        answer, = self._asked([line_of(words)], _as_they_are)
         if answer[0] == "refused":
             raise _refusal(answer)
         return answer
 
-    def _answers(self, lines: Sequence[bytes], limit: float | None) -> list[Answer]:
-        """The answers to lines, in time, or the node is ended."""
-        if os.getpid() != self._pid:
-            raise WrongProcess("member")
-        if self._ended:
-            raise NodeDied(self._ended.what, self._ended.status)
-        end = end_of(limit)
-        try:
-            self._process.flush(end)
-            # what an interrupted call has asked is nobody's by now
-            while self._process.owed:
-                self._process.answer(end)
-            self._process.send(b"".join(lines), end)
-            self._process.owed += len(lines) - 1
-            return [json.loads(self._process.answer(end)) for _ in lines]
-        except Late as late:
-            raise NodeDied(f"the node gave no answer within {limit} seconds", self._process.kill()) from late
+    def _take_changes(self, answers: list[Answer]) -> None:
+        """Takes in what the node says that came and went; all that there is where it was begun anew."""
+        (word, *parts), = answers
+        if word == "refused":
+            raise _refusal(answers[0])
+        change = Change(*(tuple(tuple(atom) for atom in atoms) for atoms in parts))
+        if self._is_new:
+            self.shown.take_whole(change.came)
+        else:
+            self.shown.take(change)
+        self._is_new = False
 
     def _show(self, symbol: str | None = None, *pattern: str | int | None) -> list[Atom]:
         """Atoms of the store, without names."""
@@ -425,7 +458,7 @@ class FolderMember(Closing):
         elif pattern:
             answer = self._ask(["find", [symbol, *self._numbers(symbol, pattern)]])
         else:
-            check_pattern((symbol,), self.columns.symbols, self._wanted)
+            self._numbers(symbol, ())
             answer = self._ask(["show", symbol])
         return [tuple(atom) for atom in answer[1]]
 
@@ -438,14 +471,18 @@ class FolderMember(Closing):
     def _wanted(self) -> Wanted:
         return Wanted(self.columns.argument, takes_names=True)
 
-    def _raise_refused(self, answer: Answer, text: str) -> None:
+    def _raise_refused(self, answer: Answer, operation: Iterable[Atom]) -> None:
         """Raises what refuses an operation, and says what is wrong with it."""
-        refusal = _refusal(answer)
+        refusal, text = _refusal(answer), atoms_text(operation)
         if isinstance(refusal, UnknownSymbol):
             refusal.say(symbol_fault(text, self.columns.symbols))
         elif isinstance(refusal, (BadLine, Shape)):
-            refusal.say(shape_fault(text, Wanted(self.columns.argument)))
+            refusal.say(shape_fault(text, self._wanted))
         raise refusal
+
+    def _check_process(self) -> None:
+        if os.getpid() != self._pid:
+            raise WrongProcess("member")
 
     def _leave(self) -> None:
         """In a fork, leaves the node to the process that made it, which alone holds its input open then."""
@@ -454,15 +491,14 @@ class FolderMember(Closing):
         self._dropped.detach()
         self._process.let_go()
 
-    def _looked(self) -> tuple[dict[str, tuple[int, int]], float]:
-        """The files of the folder with their sizes and times, and the latest of these."""
-        found: dict[str, tuple[int, int]] = {}
-        with suppress(FileNotFoundError):
-            for entry in os.scandir(self._feeds):
-                with suppress(FileNotFoundError):
-                    told = entry.stat()
-                    found[entry.name] = (told.st_size, told.st_mtime_ns)
-        return found, max((time for _, time in found.values()), default=0) / 1e9
+
+def _is_killed(died: NodeDied) -> bool:
+    """Whether a node was killed by something else, so that another one goes on."""
+    return died.status is not None and died.status < 0 and not isinstance(died.__cause__, Late)
+
+
+def _as_they_are(answers: list[Answer]) -> list[Answer]:
+    return answers
 
 
 def _refusal(answer: Answer) -> Refused:

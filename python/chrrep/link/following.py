@@ -44,17 +44,33 @@ class Watch:
                 return None
             self._member.follow(min(left, LOOK_SECONDS))
 
+    def wait(self, seconds: float) -> None:
+        """Waits until something may have come, up to so many seconds."""
+        self._member.follow(seconds)
+
     def changes(self, wait: float | None) -> Iterator[Change]:
-        """Each change, until there is none for `wait` seconds; for ever where that is None."""
-        while True:
-            change = self.look(LOOK_SECONDS if wait is None else wait)
-            if change:
-                yield change
-            elif wait is not None:
-                return
+        """Each change, until there is none for so many seconds; or for ever."""
+        return changes_of(self, wait)
 
     def __repr__(self) -> str:
         return f"<chrrep.link.Watch of {self._member!r}>"
+
+
+class Looking(Protocol):
+    """What looks at a store, again and again."""
+
+    def look(self, wait: float = 0.0) -> Change | None:
+        """What came and went since the last look; None where that is nothing for so many seconds."""
+
+
+def changes_of(watch: Looking, wait: float | None) -> Iterator[Change]:
+    """Each change that a watch sees, until there is none for so many seconds; or for ever."""
+    while True:
+        change = watch.look(LOOK_SECONDS if wait is None else wait)
+        if change:
+            yield change
+        elif wait is not None:
+            return
 
 
 class Following:
@@ -63,9 +79,9 @@ class Following:
     What it raises, or the call does, ends it: it is logged, and raised by `stop`. Leaving a `with` stops it.
     """
 
-    def __init__(self, member: Followed, call: Callable[[Change], object]) -> None:
+    def __init__(self, watch: Looking, call: Callable[[Change], object]) -> None:
         self.fault: BaseException | None = None
-        self._watch = Watch(member)
+        self._watch = watch
         self._call = call
         self._is_over = False
         self._thread = threading.Thread(target=self._run, name="chrrep following", daemon=True)

@@ -11,7 +11,6 @@ from functools import partial
 from itertools import chain
 from typing import NamedTuple, TypeVar, cast
 
-from ..closing import Closing
 from ..columns import Columns, ColumnsWarning, Orders, OrderWarning, warn
 from ..names import NameClash, Names, named_text, number_of, numbered
 from ..node import UNASKED, Timeout
@@ -30,6 +29,7 @@ from ..texts import (
     program_bytes,
 )
 from ..words import Wanted, check_pattern, shape_fault
+from .any_member import AnyMember
 from .faults import (
     Diverged,
     LinkLost,
@@ -42,7 +42,7 @@ from .faults import (
 )
 from .folder import PREFIX as FOLDER_PREFIX
 from .folder import FolderMember, folder_of
-from .following import Following, Watch
+from .following import Watch
 from .log import (
     LOG_NAME,
     PATIENCE,
@@ -98,7 +98,7 @@ class _Journals(threading.local):
     open: Journal | None = None
 
 
-class Member(Closing):
+class Member(AnyMember):
     """A node, and its link to the log that it shares with other nodes of one program.
 
     `program` is what a `Node` takes; left out, it is the log's. The first member gives the log its program, judged as
@@ -143,7 +143,6 @@ class Member(Closing):
         self._store = StoreReader(self._names.named)
         self._running = Running(chrrep, timeout)
         self._listeners: list[Callable[[Sequence[Entry]], object]] = []
-        self.when_rejoined: Callable[[], object] | None = None
         self._epoch: int
         self._generation: int
         self._replica, state = _joined(link, program, wide, self._running, self._brought)
@@ -252,16 +251,6 @@ class Member(Closing):
         numbers = (number_of(value) if isinstance(value, str) else value for value in pattern)
         return self._names.named(found_in(self._show(), symbol, *numbers))
 
-    def show_named(self, symbol: str, /, **values: str | int) -> tuple[dict[str, str | int], ...]:
-        """The facts of a symbol whose columns have names, `% chr_columns seen(parcel, time, place)`, by these; with
-        values only the facts that have them: `show_named("seen", parcel="box")`. Raises `UnknownColumn`, and what
-        `show` raises."""
-        return tuple(
-            dict(zip(names, arguments))
-            for names, pattern in self.columns.patterns(symbol, values)
-            for _, *arguments in self.show(symbol, *pattern)
-        )
-
     def show_text(self) -> str:
         """The store at rest of all that is in the log by now, as it is printed, with names."""
         text = self._show()
@@ -271,17 +260,9 @@ class Member(Closing):
         """How many atoms `show` gives."""
         return len(self.show(symbol, *pattern))
 
-    def changes(self, wait: float | None = None) -> Iterator[Change]:
-        """What came into the store at rest and went from it, each time that it has changed; at first all that it has.
-
-        It ends where nothing has changed for `wait` seconds; without `wait`, never.
-        """
-        return Watch(self).changes(wait)
-
-    def following(self, call: Callable[[Change], object]) -> Following:
-        """A thread that follows the log, and calls with each change of the store, at first with all that is there.
-        It ends with a `with`, or by `stop`."""
-        return Following(self, call)
+    def watch(self) -> Watch:
+        """What looks at the store, again and again."""
+        return Watch(self)
 
     def change_from(self, before: str) -> tuple[Change, str]:
         """What came and went since the store had this text, and the text that it has now; numbers for names there."""
@@ -413,7 +394,7 @@ class Member(Closing):
     def _begun(self, operations: Operations, after: BaseException | None) -> Tell:
         """The tell of operations, or the one that goes on after what was raised."""
         if after is not None:
-            return tell_of(after, operations)
+            return tell_of(after, operations, Tell)
         journal = self._journals.open
         return journal.next(operations) if journal else Tell(operations)
 
@@ -761,10 +742,12 @@ def join(
     a `with`, closes all. Where the program is refused, or there is none, no file is made.
 
     The address `dir:///PATH` names a folder, and gives a `FolderMember`, which has the calls of a member but those of
-    snapshots and of other programs."""
+    snapshots and of other programs. `patience` and `snapshot_after` are nothing to it."""
     text = None if program is None else program_bytes(program)
     if url.startswith(FOLDER_PREFIX):
-        folder = FolderMember(folder_of(url), text, wide=wide, timeout=timeout)
+        if log != LOG_NAME:
+            raise ValueError(f"a folder has no log {log!r}: leave it out")
+        folder = FolderMember(folder_of(url), text, origin=origin, wide=wide, timeout=timeout)
         # what it lacks of a member is what a log alone has
         return cast(Member, folder)
     brought = _brought(text, wide, Running(timeout=timeout)) if _makes_file(url) else None

@@ -1,14 +1,17 @@
 """What becomes of operations that are told: what is in the log, what may be there, and what isn't."""
 
+from abc import ABC, abstractmethod
 from collections.abc import Callable, Mapping, Sequence
 from dataclasses import dataclass, replace
 from itertools import repeat
-from typing import NamedTuple
+from typing import NamedTuple, TypeVar
 
 from ..texts import Atom, Id
 from .log import Entry
 
 Operations = list[tuple[Atom, ...]]
+
+K = TypeVar("K", bound="AnyTell")
 
 # thrice as fast as `Id` itself
 _new: Callable[[type[Id], tuple[int, int]], Id] = tuple.__new__
@@ -77,20 +80,39 @@ class Outcome(NamedTuple):
     unsure: tuple[Id, ...]
 
 
-class Tell:
+class AnyTell(ABC):
     """The operations of one call, and how far they are told."""
 
-    __slots__ = ("operations", "told", "unsure")
+    __slots__ = ("operations", "told")
 
     def __init__(self, operations: Operations) -> None:
         self.operations = operations
         self.told: list[Id] = []
-        self.unsure: Batch | None = None
 
     @property
     def rest(self) -> Operations:
-        """The operations that are not known to be in the log."""
+        """The operations that are not known to be told."""
         return self.operations[len(self.told):] if self.told else self.operations
+
+    @abstractmethod
+    def outcome(self) -> Outcome:
+        """What became of the operations."""
+
+    def leave_by(self, fault: BaseException) -> None:
+        """Has an exception say what became of the operations; `tell_of` finds them."""
+        told, unsure = self.outcome()
+        for name, value in (("told", told), ("unsure", unsure), ("tell", self)):
+            setattr(fault, name, value)
+
+
+class Tell(AnyTell):
+    """Operations that go into a log."""
+
+    __slots__ = ("unsure",)
+
+    def __init__(self, operations: Operations) -> None:
+        super().__init__(operations)
+        self.unsure: Batch | None = None
 
     def settle(self, is_there: bool) -> None:
         """Takes notice of whether what was unsure is in the log."""
@@ -102,24 +124,45 @@ class Tell:
     def outcome(self) -> Outcome:
         return Outcome(tuple(self.told), tuple(self.unsure.ids) if self.unsure else ())
 
-    def leave_by(self, fault: BaseException) -> None:
-        """Has an exception say what became of the operations; `tell_of` finds them."""
-        told, unsure = self.outcome()
-        for name, value in (("told", told), ("unsure", unsure), ("tell", self)):
-            setattr(fault, name, value)
+
+class Sent(NamedTuple):
+    """Where operations are that were sent to a folder's node: behind so many of the run of this origin."""
+
+    origin: int
+    before: int
+
+
+class FolderTell(AnyTell):
+    """Operations that go into a folder. Of those that were sent and not settled some may be told, perhaps `unsure`."""
+
+    __slots__ = ("sent", "unsure")
+
+    def __init__(self, operations: Operations) -> None:
+        super().__init__(operations)
+        self.sent: Sent | None = None
+        self.unsure: tuple[Id, ...] = ()
+
+    def settle(self, ids: Sequence[Id]) -> None:
+        """Takes notice of which of those that were sent are told."""
+        # no call stands between these, and so no interrupt
+        self.told += ids
+        self.sent, self.unsure = None, ()
+
+    def outcome(self) -> Outcome:
+        return Outcome(tuple(self.told), self.unsure if self.sent else ())
 
 
 def leave_as(fault: BaseException, before: BaseException) -> None:
     """Has an exception say what the one before it said of a tell, where that was raised by one."""
     tell = getattr(before, "tell", None)
-    if isinstance(tell, Tell):
+    if isinstance(tell, AnyTell):
         tell.leave_by(fault)
 
 
-def tell_of(fault: BaseException, operations: Operations) -> Tell:
-    """The tell that an exception has left. ValueError where it left none, or one of other operations."""
+def tell_of(fault: BaseException, operations: Operations, kind: type[K]) -> K:
+    """The tell of this kind that an exception has left. ValueError where it left none, or one of other operations."""
     tell = getattr(fault, "tell", None)
-    if not isinstance(tell, Tell):
+    if not isinstance(tell, kind):
         raise ValueError(f"{type(fault).__name__} was not raised by a tell") from fault
     if tell.operations != operations:
         raise ValueError("a tell goes on with the operations that it began with") from fault

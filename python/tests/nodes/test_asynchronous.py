@@ -53,15 +53,15 @@ class Nodes(unittest.IsolatedAsyncioTestCase):
     async def test_twins_lack_few_calls(self) -> None:
         """Those that they have take the same arguments, and are awaited."""
         texts = {"admit_texts", "merge_texts", "merge_soon", "merge_text_soon"}
-        elsewhere = {"going_over", "listen", "named", "following", "change_from"}
+        elsewhere = {"going_over", "listen", "named", "following", "change_from", "watch"}
         for twin, of, lacks in ((AsyncNode, Node, texts), (AsyncMember, Member, elsewhere)):
-            calls = {name for name, call in vars(of).items() if inspect.isfunction(call) and name[0] != "_"}
+            calls = {name for name, _ in inspect.getmembers(of, inspect.isfunction) if name[0] != "_"}
             self.assertEqual(calls - vars(twin).keys(), lacks)
             for name in calls - lacks - {"changes", "close", "follow"}:
                 call = getattr(twin, name)
                 self.assertEqual(inspect.signature(call), inspect.signature(getattr(of, name)))
                 self.assertTrue(inspect.iscoroutinefunction(call))
-                self.assertEqual(call.__doc__, f"As `{of.__name__}.{name}`.")
+                self.assertEqual(call.__doc__, f"As `{getattr(of, name).__qualname__}`.")
 
     async def test_a_node_that_has_not_begun(self) -> None:
         node = AsyncNode(COINS, 1)
