@@ -207,10 +207,8 @@ class FolderMember(AnyMember):
         none was; waits for one, up to so many seconds. A question shows what is there anyway."""
         self._check_process()
         is_new = self._looks.wait(wait)
-        if is_new and self._tails:
-            entries = self._tails.read()
-            for call in self._listeners if entries else ():
-                call(entries)
+        if is_new:
+            self._call_listeners()
         return int(is_new)
 
     def catch_up(self) -> int:
@@ -223,12 +221,12 @@ class FolderMember(AnyMember):
 
     def hear(self) -> None:
         """Has the node say what came and went, for those that watch."""
-        with self._lock:
-            self._asked([b'["changes"]\n'], self._take_changes)
+        self._asked([b'["changes"]\n'], self._take_changes)
+        self._call_listeners()
 
     def listen(self, call: Callable[[Sequence[Entry]], object]) -> None:
-        """From now on has the call made with operations that are told in the folder, by `follow`. It is not to take
-        long, nor to call the member."""
+        """From now on has the call made with operations that are told in the folder, as they are seen by who follows
+        or watches it. It is not to take long, nor to call the member."""
         with self._lock:
             self._tails = self._tails or Tails(self.feeds)
             self._listeners.append(call)
@@ -450,6 +448,12 @@ class FolderMember(AnyMember):
         else:
             self.shown.take(change)
         self._is_new = False
+
+    def _call_listeners(self) -> None:
+        with self._lock:
+            entries = self._tails.read() if self._tails else []
+            for call in self._listeners if entries else ():
+                call(entries)
 
     def _show(self, symbol: str | None = None, *pattern: str | int | None) -> list[Atom]:
         """Atoms of the store, without names."""

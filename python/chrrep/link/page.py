@@ -14,12 +14,12 @@ import sys
 import threading
 import time
 from collections import deque
-from collections.abc import Callable, Iterable, Iterator, Sequence
+from collections.abc import Callable, Iterable, Iterator, Mapping, Sequence
 from contextlib import contextmanager, suppress
 from http import HTTPStatus
 from http.server import BaseHTTPRequestHandler, ThreadingHTTPServer
 from pathlib import Path
-from typing import Any, NamedTuple
+from typing import Any, NamedTuple, Protocol, cast
 from urllib.parse import SplitResult, parse_qs, urlsplit
 
 from ..closing import Closing
@@ -27,8 +27,11 @@ from ..columns import Orders
 from ..names import NameClash, named_atoms_of, named_text
 from ..prompt import example_of, fault_words
 from ..refusals import ChrrepError, Refused
-from ..texts import LINE_LIMIT, Atom, Change, atoms_of
+from ..texts import LINE_LIMIT, Atom, Change
+from .any_member import AnyMember
 from .faults import LinkLost, PageUnusable
+from .feeds import times_of
+from .folder import FolderMember
 from .log import Entry, Heard, Position, one_line
 from .member import Member
 
@@ -50,6 +53,8 @@ _FOLLOW_SECONDS = 0.5
 _MEMBERS_SECONDS = 1.0
 _ALIVE_SECONDS = 10.0
 _SILENT_SECONDS = 10.0
+_FEEDS = 30
+"""Feeds of a folder that are shown at most: those that were written last."""
 _FORGOTTEN_SECONDS = 600.0
 _DRAIN_SECONDS = 5.0
 _RECENT = 50
@@ -140,6 +145,108 @@ def members_of(heard: Iterable[Heard], here: int, position: Position, end: Posit
     ]
 
 
+def feeds_of(
+    times: Mapping[str, tuple[int, int]], left: Mapping[str, str], here: int, now: float
+) -> list[dict[str, object]]:
+    """The feeds of a folder for the page, those that were written last first, and that of the origin here."""
+    feeds = [(time_ns / 1e9, name) for name, (_, time_ns) in times.items() if name.endswith(".feed")]
+    return [
+        {
+            "origin": origin,
+            "here": origin == here,
+            "heard": _ago(now - time),
+            "silent": now - time > _SILENT_SECONDS,
+            "name": name,
+            "left": left.get(name, ""),
+        }
+        for time, name in sorted(feeds, reverse=True)
+        for origin in [_origin_in(name)]
+    ]
+
+
+def _origin_in(name: str) -> int | None:
+    """The origin of a feed, which its name has behind what stands for the program."""
+    with suppress(ValueError, IndexError):
+        return int(name.split("-")[1], 16)
+    return None
+
+
+def _ago(seconds: float) -> str:
+    """How long something is ago, or now where a clock was set back."""
+    if seconds < 5:
+        return "now"
+    for unit, size in (("d", 86_400), ("h", 3600), ("min", 60)):
+        if seconds >= size:
+            return f"{seconds // size:.0f} {unit} ago"
+    return f"{seconds:.0f} s ago"
+
+
+class Seen(Protocol):
+    """Who shares facts with a member, for its page."""
+
+    @property
+    def place(self) -> str:
+        """What they share, and whose page it is."""
+
+    def event(self) -> "Event":
+        """What is to be shown of them."""
+
+
+class LogSeen:
+    """Who shares a log, and how far each is behind."""
+
+    def __init__(self, member: Member) -> None:
+        self._member = member
+        self._seen_at = 0.0
+        self._heard: Sequence[Heard] = ()
+
+    @property
+    def place(self) -> str:
+        """Which log it is, and whose page."""
+        return f"log {self._member.link.log}, origin {self._member.origin}"
+
+    def event(self) -> "Event":
+        """What is to be shown of the members."""
+        link = self._member.link
+        if time.monotonic() > self._seen_at + _MEMBERS_SECONDS:
+            self._seen_at = time.monotonic()
+            self._heard = link.members()
+        end = link.newest()
+        members = members_of(self._heard, self._member.origin, link.position(), end)
+        return "members", {"members": members, "operations": sum(end.values())}
+
+
+class FolderSeen:
+    """The feeds of a folder, and what of it is left alone."""
+
+    def __init__(self, member: FolderMember) -> None:
+        self._member = member
+        self._times: object = None
+        self._status: dict[str, Any] = {}
+
+    @property
+    def place(self) -> str:
+        """Which folder it is, and whose page."""
+        return f"folder {self._member.path}, origin {self._member.origin}"
+
+    def event(self) -> "Event":
+        """What is to be shown of the feeds. The node is asked only where one was written."""
+        times = times_of(self._member.feeds)
+        if times != self._times:
+            self._times, self._status = times, self._member.status()
+        left = self._status["left"]
+        feeds = feeds_of(times, left, self._member.origin, time.time())
+        others = {name: cause for name, cause in left.items() if not name.endswith(".feed")}
+        counts = {"told": self._status["told"], "at_rest": self._status["at_rest"], "all": len(feeds)}
+        return "feeds", {"feeds": feeds[:_FEEDS], "left": others, **counts}
+
+
+def _seen_of(member: AnyMember) -> Seen:
+    if isinstance(member, FolderMember):
+        return FolderSeen(member)
+    return LogSeen(cast(Member, member))
+
+
 Event = tuple[str, object]
 
 Looker = queue.Queue[Event | None]
@@ -149,19 +256,18 @@ Looker = queue.Queue[Event | None]
 class Watcher:
     """Follows a member in a thread, and tells lookers what happens."""
 
-    def __init__(self, member: Member) -> None:
+    def __init__(self, member: AnyMember) -> None:
         self._member = member
+        self._shared = _seen_of(member)
+        self._watch = member.watch()
         self._lock = threading.Lock()
         self._lookers: list[Looker] = []
-        self._text = "true"
         self._atoms: tuple[Atom, ...] = ()
         self._new: deque[Entry] = deque(maxlen=10 * _RECENT)
         self._recent: deque[tuple[str, str]] = deque(maxlen=_RECENT)
-        self._members: object = {"members": [], "operations": 0}
+        self._sharing: Event | None = None
         self._fault: str | None = None
         self._over = threading.Event()
-        self._seen_at = 0.0
-        self._heard: Sequence[Heard] = ()
         member.listen(self._hear)
         self._shown_program = self._program()
         self._step()
@@ -181,7 +287,8 @@ class Watcher:
         with self._lock:
             if len(self._lookers) >= _LOOKERS:
                 self._drop(self._lookers[0])
-            first = [("program", self._program()), ("members", self._members), ("told", list(self._recent))]
+            shared = [self._sharing] if self._sharing else []
+            first: list[Event] = [("program", self._program()), *shared, ("told", list(self._recent))]
             for event in first + ([("fault", self._fault)] if self._fault else []):
                 looker.put(event)
             self._lookers.append(looker)
@@ -211,50 +318,42 @@ class Watcher:
     def _run(self) -> None:
         try:
             while not self._over.wait(_PAUSE_SECONDS):
-                self._member.going_over(lambda: self._member.follow(_FOLLOW_SECONDS))
+                self._member.going_over(lambda: self._watch.wait(_FOLLOW_SECONDS))
                 self._step()
         except Exception as fault:  # those of the engine's client too
             said = f"{type(fault).__name__}: {one_line(fault)}"
             _LOG.warning("the page is not followed any more: %s", said)
             with self._lock:
                 self._fault = said
-                self._tell("fault", said)
+                self._tell(("fault", said))
 
     def _step(self) -> None:
         """Tells what is new."""
+        change = self._member.going_over(self._watch.look)
+        atoms = self._member.going_over(self._member.show) if change else ()
         told = [self._new.popleft() for _ in range(len(self._new))]
-        change, text = self._member.going_over(lambda: self._member.change_from(self._text))
         program, lines = self._program(), [self._line(entry) for entry in told]
-        members = self._seen()
+        sharing = self._shared.event()
         with self._lock:
             self._recent.extend(lines)
             if lines:
-                self._tell("told", lines)
-            if change.came or change.went:
-                self._text, self._atoms = text, self._member.named(atoms_of(text))
-                self._tell("change", _marks(change))
-            if members != self._members:
-                self._members = members
-                self._tell("members", members)
+                self._tell(("told", lines))
+            if change:
+                self._atoms = atoms
+                self._tell(("change", _marks(change)))
+            if sharing != self._sharing:
+                self._sharing = sharing
+                self._tell(sharing)
             if program != self._shown_program:
                 self._shown_program = program
-                self._tell("program", program)
-
-    def _seen(self) -> object:
-        if time.monotonic() > self._seen_at + _MEMBERS_SECONDS:
-            self._seen_at = time.monotonic()
-            self._heard = self._member.link.members()
-        end = self._member.link.newest()
-        position = self._member.link.position()
-        members = members_of(self._heard, self._member.origin, position, end)
-        return {"members": members, "operations": sum(end.values())}
+                self._tell(("program", program))
 
     def _program(self) -> object:
         verdict, columns = self._member.verdict, self._member.columns
         said = f"accepted{' with --wide' * verdict.is_wide}: rules {verdict.rules}, cases {verdict.cases}"
         return {
             "verdict": said,
-            "log": f"log {self._member.link.log}, origin {self._member.origin}",
+            "log": self._shared.place,
             "example": example_of(columns),
             "text": self._member.program.text.decode(errors="replace"),
         }
@@ -267,10 +366,10 @@ class Watcher:
             atoms = entry.atoms[:200]
         return f"{entry.id.origin}:{entry.id.number}", atoms
 
-    def _tell(self, name: str, value: object) -> None:
+    def _tell(self, event: Event) -> None:
         for looker in list(self._lookers):
             try:
-                looker.put_nowait((name, value))
+                looker.put_nowait(event)
             except queue.Full:
                 self._drop(looker)
 
@@ -299,7 +398,7 @@ def _marks(change: Change) -> object:
 class Page(Closing):
     """The page of a member at a port of loopback, 0 being any. It ends with a `with`, or by `close`."""
 
-    def __init__(self, member: Member, port: int) -> None:
+    def __init__(self, member: AnyMember, port: int) -> None:
         self.member = member
         self._orders = Orders(member.columns)
         self.token = secrets.token_urlsafe(24)
@@ -493,7 +592,7 @@ class _Handler(BaseHTTPRequestHandler):
         return True
 
 
-def _told(member: Member, line: str) -> tuple[HTTPStatus, str]:
+def _told(member: AnyMember, line: str) -> tuple[HTTPStatus, str]:
     """Tells a line, and gives what is said of it."""
     try:
         atoms = named_atoms_of(line.strip())

@@ -24,7 +24,7 @@ from unittest.mock import patch
 from browser import CHROMIUM, DRIVER, Browser
 from chrrep import Atom, ColumnsWarning, Id, OrderWarning
 from chrrep.link import Batch, Heard, Member, PageUnusable, connect, join
-from chrrep.link.page import Page, behind, json_text, members_of, tables_of
+from chrrep.link.page import Page, behind, feeds_of, json_text, members_of, tables_of
 from chrrep.texts import LINE_LIMIT
 from engines import LOOPBACK
 from kills import PACKAGE
@@ -325,7 +325,7 @@ class Events(Served):
         with page.watcher.looking() as looker:
             assert looker
             for _ in range(1001):
-                page.watcher._tell("told", [])
+                page.watcher._tell(("told", []))
             self.assertEqual(len(page.watcher._lookers), 0)
             self.assertTrue(page.watcher.is_looking(looker))
             while not looker.empty():
@@ -464,6 +464,72 @@ class Ports(Served):
         return command
 
 
+class FolderPages(Served):
+    """Pages of members of a folder."""
+
+    def setUp(self) -> None:  # noqa: N802
+        super().setUp()
+        self.url = f"dir:///{self.room}/shop"
+
+    def test_what_others_tell_comes(self) -> None:
+        member, page = self.serve()
+        other = self.stack.enter_context(join(self.url))
+        self.assertEqual(self.tell(page, "path(berlin,paris,9)").status, 200)
+        with self.open(page, "GET", "/events") as answer:
+            events = events_of(answer)
+            name, program = next(events)
+            self.assertEqual((name, program["text"]), ("program", PATHS))
+            self.assertEqual(program["log"], f"folder {self.room}/shop, origin {member.origin}")
+            self.assertEqual(program["verdict"], "accepted: rules 1, cases 541")
+            self.wait_for_store(page, '"9"')
+            ids = [other.tell(("path", "berlin", "paris", length)) for length in (12, 2**53 + 1, 3)]
+            told: list[list[str]] = []
+            changes: list[Any] = []
+            feeds: dict[str, Any] = {"told": 0}
+            while len(told) < 4 or feeds["told"] < 4:
+                name, value = next(events)
+                told += value if name == "told" else []
+                changes += [value] if name == "change" else []
+                feeds = value if name == "feeds" else feeds
+            said = [f"path(berlin,paris,{length})" for length in (12, 2**53 + 1, 3)]
+            wanted = [[f"{id.origin}:{id.number}", line] for id, line in zip(ids, said)]
+            self.assertEqual([line for line in told if not line[1].endswith(",9)")], wanted)
+            came, went = (["path", ["berlin"], ["paris"], length] for length in ("3", "9"))
+            self.assertEqual((changes[-1]["came"], changes[-1]["went"]), ([came], [went]))
+            self.assertEqual((feeds["at_rest"], feeds["all"], feeds["left"]), (1, 2, {}))
+            rows = {one["origin"]: (one["here"], one["heard"], one["silent"]) for one in feeds["feeds"]}
+            self.assertEqual(rows, {member.origin: (True, "now", False), other.origin: (False, "now", False)})
+            # what is left alone is named
+            (self.room / "shop" / "feeds" / "note.txt").write_text("no feed")
+            while not feeds["left"]:
+                name, value = next(events)
+                feeds = value if name == "feeds" else feeds
+            self.assertEqual(feeds["left"], {"note.txt": "it is no feed"})
+        store = json.loads(self.ask(page, "GET", "/store").body)
+        self.assertEqual(store["tables"][0]["rows"], [["path", ["berlin"], ["paris"], "3"]])
+
+    def wait_for_store(self, page: Page, length: str) -> None:
+        end = time.monotonic() + SECONDS
+        while length.encode() not in self.ask(page, "GET", "/store").body:
+            self.assertLess(time.monotonic(), end)
+            time.sleep(0.02)
+
+    def test_feeds_by_their_times(self) -> None:
+        times = {
+            "0-00000007-1.feed": (1, 1_000_000_000_000), "0-000000ff-1.feed": (1, 1_090_000_000_000),
+            "0-00000008-1.feed": (1, 1_101_000_000_000), "bad.feed": (0, 0), "note.txt": (1, 0),
+        }  # fmt: skip
+        rows = [
+            (one["origin"], one["here"], one["heard"], one["silent"], one["left"])
+            for one in feeds_of(times, {"0-000000ff-1.feed": "damaged", "note.txt": "x"}, 8, 1100.0)
+        ]
+        wanted = [
+            (8, True, "now", False, ""), (255, False, "10 s ago", False, "damaged"), (7, False, "1 min ago", True, ""),
+            (None, False, "18 min ago", True, ""),
+        ]  # fmt: skip
+        self.assertEqual(rows, wanted)
+
+
 @unittest.skipUnless(CHROMIUM and DRIVER, "there is no Chromium with its driver: chromium, chromium-driver")
 class Browsers(Served):
     """The environment's CHRREP_PICTURES names a folder for pictures of the page."""
@@ -515,6 +581,32 @@ class Browsers(Served):
             browser.type("#line", "path(1,2)\n")
             browser.wait_for("document.getElementById('answer').className == 'bad'")
         self.assertEqual(member.count("path"), 6)
+
+    def test_the_page_of_a_folder_in_a_browser(self) -> None:
+        self.url = f"dir:///{self.room}/shop"
+        member, page = self.serve(f"% chr_columns path(from, to, km)\n{PATHS}:- chr_constraint closed/1.\n")
+        other = self.stack.enter_context(join(self.url))
+        other.tell_many([[atom] for atom in ROUTES])
+        with Browser(1280, 800) as browser:
+            browser.go(page.url)
+            browser.wait_for("document.querySelectorAll('#tables tr').length == 7")
+            self.assertIn(f"origin {member.origin}", browser.run("return document.getElementById('log').textContent"))
+            browser.type("#line", "path(berlin,rome,1480)\n")
+            browser.wait_for("document.getElementById('answer').textContent.startsWith('told ')")
+            browser.wait_for("document.querySelector('tr.came') && document.querySelector('tr.went')")
+            other.tell(("path", "lisbon", "madrid", 625))
+            browser.wait_for("document.getElementById('told').textContent.includes('path(lisbon,madrid,625)')")
+            self.assertEqual(browser.run("return document.getElementById('who').textContent"), "Feeds")
+            browser.wait_for("document.getElementById('end').textContent == '8 facts told, 7 at rest'")
+            (self.room / "shop" / "feeds" / "note.txt").write_text("no feed")
+            browser.wait_for("document.getElementById('members').textContent.includes('note.txt: it is no feed')")
+            browser.wait_for(f"{MEMBERS}.length == 2 && {MEMBERS}.join().includes('{member.origin} (here)|')")
+            for width, height in ((1280, 860), (390, 860)):
+                browser.resize(width, height)
+                time.sleep(0.3)
+                self.assertLessEqual(browser.run("return document.documentElement.scrollWidth"), width)
+                if folder := os.environ.get("CHRREP_PICTURES"):
+                    browser.picture(Path(folder) / f"folder-{width}.png")
 
     def test_a_page_that_was_cut_off_connects_again(self) -> None:
         """After a fault of its node, and after something else has answered in its place."""
