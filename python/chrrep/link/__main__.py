@@ -1,6 +1,6 @@
-"""Keeps facts by the rules of a program, together with all nodes that have the same log.
+"""Keeps facts by the rules of a program, together with all nodes that have the same folder or log.
 
-Type facts, on one line between commas. The answer `told ORIGIN:NUMBER` says that they are in the log, and safe.
+Type facts, on one line between commas. The answer `told ORIGIN:NUMBER` says that they are on the disk, and safe.
 
   path(1,2,7), path(rome,"São Paulo",1)   tells two facts
   ?                                       shows all facts that the rules have left
@@ -19,19 +19,21 @@ import signal
 import sys
 import threading
 import warnings
-from collections.abc import Callable, Iterator
+from collections.abc import Callable, Iterator, Sequence
 from contextlib import AbstractContextManager, nullcontext, suppress
 from functools import partial
 from pathlib import Path
 from typing import Self
 
-from .. import Atom, Refused, RefusedProgram
+from .. import Atom, Id, Refused, RefusedProgram
 from ..lines import Lines, text_of
 from ..names import NameClash, named_atoms_of, named_text, pattern_of
 from ..prompt import example_of, fault_words, help_of
+from .any_member import AnyMember
 from .faults import LogUnusable
+from .folder import PREFIX as FOLDER_PREFIX
 from .log import LOG_NAME, PATIENCE, one_line
-from .member import BATCH, SNAPSHOT_AFTER, Member, join
+from .member import BATCH, SNAPSHOT_AFTER, join
 from .sqlite import PREFIX
 
 ACCEPTED, REFUSED, FAULT, INTERRUPTED, TERMINATED = 0, 1, 3, 130, 143
@@ -120,10 +122,12 @@ def _settings(words: list[str] | None) -> argparse.Namespace:
         formatter_class=argparse.RawDescriptionHelpFormatter,
     )
     add = parser.add_argument
-    add("program", nargs="?", type=Path, metavar="PROGRAM", help="the file with the rules; without it, the log's own")
+    rules = "the file with the rules; without it, those that are kept with the facts"
+    add("program", nargs="?", type=Path, metavar="PROGRAM", help=rules)
     engine = (
-        "where the log is: sqlite:///PATH, redis://HOST:PORT/DB or postgresql://USER@HOST:PORT/DB; without it, a file "
-        "in the folder .chrrep beside PROGRAM"
+        "where the facts are: a folder, dir:///PATH, or a log that nodes share, sqlite:///PATH, redis://HOST:PORT/DB "
+        "or postgresql://USER@HOST:PORT/DB; without it, a folder in .chrrep beside PROGRAM, or the log of an earlier "
+        "version there"
     )
     add("--engine", metavar="URL", help=engine)
     add("--log", default=LOG_NAME, metavar="NAME", help=f"which log, where the engine has several ({LOG_NAME})")
@@ -135,7 +139,7 @@ def _settings(words: list[str] | None) -> argparse.Namespace:
         "too many cases"
     )
     add("--wide", action="store_true", help=wide)
-    away = f"how long to wait for an engine that doesn't answer ({PATIENCE:.0f})"
+    away = f"how long to wait for a log's engine that doesn't answer ({PATIENCE:.0f})"
     add("--patience", default=PATIENCE, type=float, metavar="SECONDS", help=away)
     add("--origin", type=int, metavar="N", help="the ORIGIN of what this node tells; without it, a free one")
     after = f"after how many told facts the log keeps what is left of all in their place ({SNAPSHOT_AFTER})"
@@ -146,7 +150,7 @@ def _settings(words: list[str] | None) -> argparse.Namespace:
     if settings.upgrade and settings.page is not None:
         parser.error("with --upgrade NEW there is no node for a --page")
     if not (settings.engine or settings.program or settings.upgrade):
-        parser.error("without a PROGRAM the log is to be named: --engine URL")
+        parser.error("without a PROGRAM the folder or log is to be named: --engine URL")
     return settings
 
 
@@ -154,21 +158,32 @@ def _run(settings: argparse.Namespace, signals: Signals) -> None:
     if settings.engine:
         return _serve(settings, settings.engine, signals)
     program = settings.program or settings.upgrade
-    folder = _folder_beside(program)
+    beside = _folder_beside(program)
     try:
-        _serve(settings, f"{PREFIX}{folder / program.stem}.sqlite", signals)
+        _serve(settings, _engine_in(beside, program.stem, settings.upgrade is not None), signals)
     finally:
-        # one without a log was made in vain
+        # one without facts was made in vain
         with suppress(OSError):
-            folder.rmdir()
+            beside.rmdir()
+
+
+def _engine_in(beside: Path, name: str, is_upgrade: bool) -> str:
+    """Where the facts of a program of this name are: in a folder, but for a log that is there already. Only a log goes
+    over to another program."""
+    folder, log = beside / name, beside / f"{name}.sqlite"
+    is_log = log.exists() or is_upgrade
+    return f"{PREFIX}{log}" if is_log and not folder.exists() else f"{FOLDER_PREFIX}{folder}"
 
 
 def _serve(settings: argparse.Namespace, engine: str, signals: Signals) -> None:
     options = {name: getattr(settings, name) for name in ("origin", "log", "patience", "snapshot_after")}
     is_wide = settings.wide or None
+    if settings.upgrade and engine.startswith(FOLDER_PREFIX):
+        raise ValueError(f"the folder of {engine} keeps its program: --upgrade is for logs")
     with join(engine, settings.program, wide=None if settings.upgrade else is_wide, **options) as member:
         if not settings.engine:
-            print(f"chrrep.link: the log is {engine}, and this node's origin {member.origin}", file=sys.stderr)
+            place = "folder" if engine.startswith(FOLDER_PREFIX) else "log"
+            print(f"chrrep.link: the {place} is {engine}, and this node's origin {member.origin}", file=sys.stderr)
         if settings.upgrade:
             member.upgrade(settings.upgrade, wide=is_wide)
             _say(f"upgraded: rules {member.verdict.rules}, cases {member.verdict.cases}")
@@ -179,7 +194,7 @@ def _serve(settings: argparse.Namespace, engine: str, signals: Signals) -> None:
                 _converse(member, signals, settings.page is not None)
 
 
-def _page(member: Member, port: int | None) -> AbstractContextManager[object]:
+def _page(member: AnyMember, port: int | None) -> AbstractContextManager[object]:
     """The page of the member, where one is asked for."""
     if port is None:
         return nullcontext()
@@ -197,11 +212,11 @@ def _folder_beside(program: Path) -> Path:
     try:
         folder.mkdir(exist_ok=True)
     except OSError as fault:
-        raise LogUnusable(f"the folder of the log can't be made: {fault}") from fault
+        raise LogUnusable(f"the folder for the facts can't be made: {fault}") from fault
     return folder
 
 
-def _converse(member: Member, signals: Signals, goes_on: bool) -> None:
+def _converse(member: AnyMember, signals: Signals, goes_on: bool) -> None:
     """Follows the log until the input has ended, if it doesn't go on then, a signal has come, or something has
     failed."""
     over = threading.Event()
@@ -225,14 +240,14 @@ def _converse(member: Member, signals: Signals, goes_on: bool) -> None:
         raise failures[0]
 
 
-def _begin_prompt(member: Member) -> None:
+def _begin_prompt(member: AnyMember) -> None:
     """Says to whoever sits at a terminal what may be typed."""
     if os.isatty(_STANDARD_INPUT):
         example = f"type {example_of(member.columns)} to tell a fact, ? to see all, {_HELP} for more"
         print(f"chrrep.link: {example}", file=sys.stderr, flush=True)
 
 
-def _answer(member: Member, lines: list[bytes]) -> None:
+def _answer(member: AnyMember, lines: list[bytes]) -> None:
     """Answers lines that came at once. Operations that follow each other are told together."""
     tells: list[tuple[Atom, ...]] = []
     for line in lines:
@@ -245,7 +260,7 @@ def _answer(member: Member, lines: list[bytes]) -> None:
     _tell(member, tells)
 
 
-def _read(member: Member, line: bytes) -> tuple[Atom, ...] | Callable[[], str] | None:
+def _read(member: AnyMember, line: bytes) -> tuple[Atom, ...] | Callable[[], str] | None:
     """The atoms that a line tells, or what answers it; None where it is empty."""
     try:
         text = text_of(line).strip()
@@ -259,7 +274,7 @@ def _read(member: Member, line: bytes) -> tuple[Atom, ...] | Callable[[], str] |
         return lambda: said
 
 
-def _shown(member: Member, text: str) -> str:
+def _shown(member: AnyMember, text: str) -> str:
     """The store, or what is asked for of it behind a question mark."""
     try:
         if text == _QUESTION:
@@ -270,21 +285,27 @@ def _shown(member: Member, text: str) -> str:
         return f"refused: {fault_words(fault, member.columns)}"
 
 
-def _tell(member: Member, tells: list[tuple[Atom, ...]]) -> None:
+def _tell(member: AnyMember, tells: list[tuple[Atom, ...]]) -> None:
     """Tells operations, each by itself where they aren't taken together, and forgets them."""
     for at in range(0, len(tells), BATCH):
         batch = tells[at:at + BATCH]
         try:
             ids = member.going_over(partial(member.tell_many, batch))
-        except (Refused, NameClash):
-            for atoms in batch:
+        except (Refused, NameClash) as refusal:
+            _say_told(refusal.told)
+            for atoms in batch[len(refusal.told):]:
                 _tell_one(member, atoms)
         else:
-            _say("".join(f"told {id.origin}:{id.number}\n" for id in ids)[:-1])
+            _say_told(ids)
     tells.clear()
 
 
-def _tell_one(member: Member, atoms: tuple[Atom, ...]) -> None:
+def _say_told(ids: Sequence[Id]) -> None:
+    if ids:
+        _say("".join(f"told {id.origin}:{id.number}\n" for id in ids)[:-1])
+
+
+def _tell_one(member: AnyMember, atoms: tuple[Atom, ...]) -> None:
     try:
         id = member.going_over(partial(member.tell, *atoms))
     except (Refused, NameClash) as refusal:
@@ -293,7 +314,7 @@ def _tell_one(member: Member, atoms: tuple[Atom, ...]) -> None:
         _say(f"told {id.origin}:{id.number}")
 
 
-def _say_program(member: Member) -> None:
+def _say_program(member: AnyMember) -> None:
     program = f"rules {member.verdict.rules}, cases {member.verdict.cases}"
     print(f"chrrep.link: the log went over to another program: {program}", file=sys.stderr)
 

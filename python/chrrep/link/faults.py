@@ -37,18 +37,18 @@ class OriginShared(ChrrepError):
 
 
 class NoProgram(ChrrepError):
-    """A log that has no program yet, and a member that brought none."""
+    """A log or a folder that has no program yet, and a member that brought none."""
 
-    def __init__(self) -> None:
-        super().__init__("the log has no program yet: its first member brings one")
+    def __init__(self, place: str = "log") -> None:
+        super().__init__(f"the {place} has no program yet: its first member brings one")
 
 
 class OtherProgram(ChrrepError):
-    """The member brought another program than the log's. Nothing was appended."""
+    """The member brought another program than that of the log or folder. Nothing was told."""
 
-    def __init__(self, ours: bytes, theirs: bytes) -> None:
+    def __init__(self, ours: bytes, theirs: bytes, place: str = "log") -> None:
         self.ours, self.theirs = ours, theirs
-        super().__init__(f"the log has another program: {_first_difference(ours, theirs)}")
+        super().__init__(f"the {place} has another program: {_first_difference(ours, theirs, place)}")
 
 
 class ProgramChanged(ChrrepError):
@@ -86,7 +86,7 @@ class PageUnusable(ChrrepError):
         super().__init__(f"port {port} of this machine {why}: name another by --page PORT")
 
 
-def _first_difference(ours: bytes, theirs: bytes) -> str:
+def _first_difference(ours: bytes, theirs: bytes, place_of: str) -> str:
     """Where two texts differ first, in words."""
     if ours == theirs:
         return "the texts are one, but judged in two ways: leave --wide out, and the program is judged as the log says"
@@ -95,4 +95,4 @@ def _first_difference(ours: bytes, theirs: bytes) -> str:
     here, there = (text.decode(errors="replace").split("\n") for text in (ours, theirs))
     place = next((at for at, pair in enumerate(zip(here, there)) if pair[0] != pair[1]), min(len(here), len(there)))
     said = (repr(lines[place][:80]) if place < len(lines) else "not there" for lines in (here, there))
-    return f"line {place + 1} is {next(said)} here and {next(said)} in the log"
+    return f"line {place + 1} is {next(said)} here and {next(said)} in the {place_of}"

@@ -289,9 +289,9 @@ class FolderMember(AnyMember):
             raise OriginShared(self._origin) from died
         if died.status == 2:
             if not kept.is_file() and text is None:
-                raise NoProgram from died
+                raise NoProgram("folder") from died
             if kept.is_file() and text is not None and kept.read_bytes() != text:
-                raise OtherProgram(text, kept.read_bytes()) from died
+                raise OtherProgram(text, kept.read_bytes(), "folder") from died
         if died.status == 3:
             raise LogUnusable(f"the folder {self.path} can't be used: {said}") from died
 
