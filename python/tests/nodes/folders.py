@@ -8,7 +8,7 @@ import os
 import shutil
 import subprocess
 import unittest
-from collections.abc import Callable, Sequence
+from collections.abc import Callable, Mapping, Sequence
 from functools import cache
 from pathlib import Path
 from tempfile import TemporaryDirectory
@@ -19,7 +19,10 @@ from chrrep.node import program_path
 
 KILLS = int(os.environ.get("CHRREP_KILLS", "40"))
 SECONDS = 10.0
-"""How long nodes are killed at random."""
+"""Far longer than anything here takes."""
+
+KILL_SECONDS = float(os.environ.get("CHRREP_KILL_SECONDS", "8"))
+"""How long nodes of two folders are killed at random."""
 
 BITS = 26
 COUNTED = (
@@ -51,10 +54,18 @@ def number_in(store: Sequence[Atom]) -> int:
 class Node:
     """`chrrep node`, asked line by line."""
 
-    def __init__(self, folder: Path, *words: str, before: Callable[[], None] | None = None) -> None:
+    def __init__(
+        self,
+        folder: Path,
+        *words: str,
+        before: Callable[[], None] | None = None,
+        under: Mapping[str, str] = {},
+        passed: Sequence[int] = (),
+    ) -> None:
         self.process = subprocess.Popen(
             [program_path(), "node", "--data", os.fspath(folder), *words],
             stdin=subprocess.PIPE, stdout=subprocess.PIPE, stderr=subprocess.PIPE, text=True, preexec_fn=before,
+            env={**os.environ, **under}, pass_fds=passed,
         )
 
     def ask(self, *words: object) -> Any:
@@ -105,10 +116,12 @@ class Folders(unittest.TestCase):
 
 
 def bring(source: Path, target: Path) -> None:
-    """Copies feeds as `rsync -au` does: whole files, which take the place of older ones alone."""
+    """Copies feeds as `rsync -au` does: whole files, which take the place of older ones alone. A copy has the time that
+    its feed had before it was read, so that what is written meanwhile is copied the next time."""
     for feed in (source / "feeds").glob("*.feed"):
-        there = target / "feeds" / feed.name
-        if not there.exists() or there.stat().st_mtime_ns < feed.stat().st_mtime_ns:
+        there, time = target / "feeds" / feed.name, feed.stat().st_mtime_ns
+        if not there.exists() or there.stat().st_mtime_ns < time:
             draft = target / f".{feed.name}"
-            shutil.copy2(feed, draft)
+            shutil.copyfile(feed, draft)
+            os.utime(draft, ns=(time, time))
             draft.rename(there)

@@ -18,8 +18,12 @@ from chrrep.asynchronous import join as join_later
 from chrrep.link import FolderMember, LogUnusable, NoProgram, OriginShared, OtherProgram, join
 from chrrep.names import NameClash, NameFault, named_atoms_of
 from chrrep.process import Process
-from folders import COUNTED, OTHER, SECONDS, TURNED, Folders, bring, number_in
+from folders import COUNTED, KILL_SECONDS, OTHER, SECONDS, TURNED, Folders, bring, counted, number_in
 from programs import PATHS, REGISTER
+
+
+PAUSE_SECONDS = 0.2
+"""How long who tells rests at most: a folder has room for 1,000,000 facts, which ten minutes must not fill."""
 
 
 def interrupted_at(place: int) -> Callable[[Process, float | None], str]:
@@ -314,36 +318,38 @@ class Members(Folders):
         self.assertEqual(sorted(seen, key=str), sorted(other.show(), key=str))
 
     def test_two_folders_and_their_copies_end_with_one_store(self) -> None:
-        """Three members of one folder and one of another are killed at random, while feeds are copied both ways."""
+        """Three members of one folder and one of another are killed at random, while feeds are copied both ways. What
+        all of them show in the end is computed here from what they told."""
         second = self.room / "second"
         members = [self.joined() for _ in range(3)]
         members.append(FolderMember(second, COUNTED))
         self.addCleanup(members[-1].close)
-        chance = random.Random(7)
-        told = [0] * len(members)
-        end = time.monotonic() + SECONDS
-
-        def tell(place: int) -> None:
-            while time.monotonic() < end:
-                try:
-                    told[place] += len(members[place].tell_many([("b0",)] for _ in range(20)))
-                except NodeDied as died:
-                    told[place] += len(died.told)
-
-        tellers = [threading.Thread(target=tell, args=(place,)) for place in range(len(members))]
-        for teller in tellers:
-            teller.start()
+        chance, over = random.Random(7), threading.Event()
+        tellers = [Teller(member, over, random.Random(place)) for place, member in enumerate(members)]
+        end = time.monotonic() + KILL_SECONDS
+        kills = 0
         while time.monotonic() < end:
             time.sleep(chance.random())
             with suppress(ProcessLookupError):
                 os.kill(chance.choice(members).pid, signal.SIGKILL)
+                kills += 1
             bring(self.folder, second)
             bring(second, self.folder)
+        over.set()
         for teller in tellers:
-            teller.join()
+            teller.end()
         bring(self.folder, second)
         bring(second, self.folder)
-        self.assertEqual([number_in(member.show()) for member in members], [sum(told)] * len(members))
+        shortest: dict[tuple[int, int], int] = {}
+        for teller in tellers:
+            for way, length in teller.ways:
+                shortest[way] = min(length, shortest.get(way, length))
+        count = sum(teller.count for teller in tellers)
+        wanted = {*counted(count), *(("path", *way, length) for way, length in shortest.items())}
+        for member in members:
+            self.assertEqual({*member.show()}, wanted)
+            self.assertEqual(member.status()["left"], {})
+        print(f"({kills} kills, {count} told)", end=" ")
 
     def test_a_killed_node_is_told_each_fact_once(self) -> None:
         member = self.joined()
@@ -359,7 +365,7 @@ class Members(Folders):
         killer.start()
         told = 0
         try:
-            end = time.monotonic() + 10
+            end = time.monotonic() + KILL_SECONDS / 2
             while time.monotonic() < end:
                 try:
                     told += len(member.tell_many([("b0",)] for _ in range(chance.randrange(1, 40))))
@@ -369,3 +375,45 @@ class Members(Folders):
             over.set()
             killer.join()
         self.assertEqual(number_in(member.show()), told)
+
+
+class Teller:
+    """A thread that tells facts to a member, each just once, and keeps count of them."""
+
+    def __init__(self, member: FolderMember, over: threading.Event, chance: random.Random) -> None:
+        self.count = 0
+        self.ways: list[tuple[tuple[int, int], int]] = []
+        self._member, self._over, self._chance = member, over, chance
+        self._failure: BaseException | None = None
+        self._thread = threading.Thread(target=self._run)
+        self._thread.start()
+
+    def end(self) -> None:
+        """Waits for the thread, and raises what it met."""
+        self._thread.join()
+        if self._failure:
+            raise self._failure
+
+    def _run(self) -> None:
+        try:
+            while not self._over.wait(PAUSE_SECONDS * self._chance.random()):
+                self._tell(self._chance.randrange(1, 20))
+        except BaseException as failure:
+            self._failure = failure
+
+    def _tell(self, count: int) -> None:
+        """Tells so many operations, and goes on with them after each death of the node."""
+        draw = self._chance.randrange
+        ways = [((draw(50), draw(50)), draw(10**6)) for _ in range(count)]
+        operations: list[list[Atom]] = [[("b0",), ("path", *way, length)] for way, length in ways]
+        fault = None
+        while True:
+            try:
+                ids = self._member.tell_many(operations, after=fault)
+            except NodeDied as died:
+                fault = died
+            else:
+                break
+        assert len({*ids}) == count
+        self.count += count
+        self.ways += ways
