@@ -12,7 +12,8 @@ is told, and how many have ended where standard error is a terminal.
 The environment's CHRREP_PROGRAMS is how many random programs of each kind are judged and explained, 3,000 where it
 doesn't say, CHRREP_KILLS how many nodes are killed at random moments over each engine, CHRREP_OPERATIONS how many
 operations are told to see that room stays bounded, and CHRREP_REFUSED how many examples are run with memory refused,
-all where it doesn't say.
+all where it doesn't say. CHRREP_KILL_SECONDS is how long nodes of two folders are killed at random, 8 where it doesn't
+say, and CHRREP_FEEDS how many feeds a folder is opened with, 1,000.
 """
 
 import argparse
@@ -42,6 +43,8 @@ LONGEST = [
     "test_explanations",
     "test_lasting",
     "test_embedded",
+    "test_folder_faults",
+    "test_folder_members",
 ]
 """Modules whose tests take long, the longest first: several processes begin with these."""
 
