@@ -7,6 +7,7 @@
 mod failure;
 mod folder;
 mod following;
+mod lines;
 mod program;
 mod session;
 mod words;
