@@ -23,16 +23,19 @@ pub returns-in-Chained-clause-greatest : goal.returns-in-Chained-clause-greatest
 returns-in-Chained-clause-greatest c =
     rw c.in-Chained.is (if_some
     (λ row. (other : ℕ) → other ≤ c.args.row → HasHash c.in-Chained.index.rows c.args.hash other → other ≤ row)
-    (λ row. (other : ℕ) → other ≤ c.args.row → IsFinderRow (Chained c.in-Chained.index) c.args.hash c.args.span.now other → other ≤ row)
+    (λ row. (other : ℕ) → other ≤ c.args.row
+    → IsFinderRow (Chained c.in-Chained.index) c.args.hash c.args.span.now other → other ≤ row)
     c.at_or_below.result
-    (λ row greatest other below s. greatest other below (found_chained c.in-Chained.index c.args.hash c.args.span.now other s))
+    (λ row greatest other below s. greatest other below
+    (found_chained c.in-Chained.index c.args.hash c.args.span.now other s))
     c.at_or_below.ensures.newest)
 
 pub returns-in-Chained-clause-none : goal.returns-in-Chained-clause-none
 returns-in-Chained-clause-none c =
     rw c.in-Chained.is (if_none
     ((other : ℕ) → other ≤ c.args.row → ¬ (HasHash c.in-Chained.index.rows c.args.hash other))
-    ((other : ℕ) → other ≤ c.args.row → ¬ (IsFinderRow (Chained c.in-Chained.index) c.args.hash c.args.span.now other)) c.at_or_below.result
+    ((other : ℕ) → other ≤ c.args.row → ¬ (IsFinderRow
+    (Chained c.in-Chained.index) c.args.hash c.args.span.now other)) c.at_or_below.result
     (λ none other below s. none other below (found_chained c.in-Chained.index c.args.hash c.args.span.now other s))
     c.at_or_below.ensures.none)
 
@@ -68,9 +71,13 @@ returns-in-Ranged-clause-none c =
 
 pub returns-in-Crossed-clause-met : goal.returns-in-Crossed-clause-met
 returns-in-Crossed-clause-met c =
-    rw c.in-Crossed.is (if_some (λ row. IsCrossed c.in-Crossed.index.rows c.args.hash c.range_for-first.result c.range_for-in-Crossed.result row)
-    (λ row. IsFinderRow (Crossed c.in-Crossed.first c.in-Crossed.second c.in-Crossed.index) c.args.hash c.args.span.now row) c.at_or_below-in-Crossed.result
-    (λ row w. crossed_found c.in-Crossed.first c.in-Crossed.second c.in-Crossed.index c.args.hash c.args.span.now c.range_for-first.result c.range_for-in-Crossed.result row c.range_for-first.ensures.narrow c.range_for-in-Crossed.ensures.narrow w) c.at_or_below-in-Crossed.ensures.crossed)
+    rw c.in-Crossed.is (if_some (λ row. IsCrossed c.in-Crossed.index.rows c.args.hash c.range_for-first.result
+    c.range_for-in-Crossed.result row)
+    (λ row. IsFinderRow (Crossed c.in-Crossed.first c.in-Crossed.second c.in-Crossed.index) c.args.hash
+    c.args.span.now row) c.at_or_below-in-Crossed.result
+    (λ row w. crossed_found c.in-Crossed.first c.in-Crossed.second c.in-Crossed.index c.args.hash c.args.span.now
+    c.range_for-first.result c.range_for-in-Crossed.result row c.range_for-first.ensures.narrow
+    c.range_for-in-Crossed.ensures.narrow w) c.at_or_below-in-Crossed.ensures.crossed)
 
 pub returns-in-Crossed-clause-at_or_below : goal.returns-in-Crossed-clause-at_or_below
 returns-in-Crossed-clause-at_or_below c =
@@ -79,16 +86,28 @@ returns-in-Crossed-clause-at_or_below c =
 pub returns-in-Crossed-clause-greatest : goal.returns-in-Crossed-clause-greatest
 returns-in-Crossed-clause-greatest c =
     rw c.in-Crossed.is (if_some
-    (λ row. (other : ℕ) → rank_of c.in-Crossed.index.ranks other ≤ rank_of c.in-Crossed.index.ranks c.args.row → IsCrossed c.in-Crossed.index.rows c.args.hash c.range_for-first.result c.range_for-in-Crossed.result other → rank_of c.in-Crossed.index.ranks other ≤ rank_of c.in-Crossed.index.ranks row)
-    (λ row. (other : ℕ) → rank_of c.in-Crossed.index.ranks other ≤ rank_of c.in-Crossed.index.ranks c.args.row → IsFinderRow (Crossed c.in-Crossed.first c.in-Crossed.second c.in-Crossed.index) c.args.hash c.args.span.now other → rank_of c.in-Crossed.index.ranks other ≤ rank_of c.in-Crossed.index.ranks row)
+    (λ row. (other : ℕ) → rank_of c.in-Crossed.index.ranks other ≤ rank_of c.in-Crossed.index.ranks c.args.row
+    → IsCrossed c.in-Crossed.index.rows c.args.hash c.range_for-first.result c.range_for-in-Crossed.result other
+    → rank_of c.in-Crossed.index.ranks other ≤ rank_of c.in-Crossed.index.ranks row)
+    (λ row. (other : ℕ) → rank_of c.in-Crossed.index.ranks other ≤ rank_of c.in-Crossed.index.ranks c.args.row
+    → IsFinderRow (Crossed c.in-Crossed.first c.in-Crossed.second c.in-Crossed.index) c.args.hash c.args.span.now
+    other → rank_of c.in-Crossed.index.ranks other ≤ rank_of c.in-Crossed.index.ranks row)
     c.at_or_below-in-Crossed.result
-    (λ row greatest other below s. greatest other below (found_crossed c.in-Crossed.first c.in-Crossed.second c.in-Crossed.index c.args.hash c.args.span.now c.range_for-first.result c.range_for-in-Crossed.result other c.range_for-first.ensures.wide c.range_for-in-Crossed.ensures.wide s))
+    (λ row greatest other below s. greatest other below
+    (found_crossed c.in-Crossed.first c.in-Crossed.second c.in-Crossed.index c.args.hash c.args.span.now
+    c.range_for-first.result c.range_for-in-Crossed.result other c.range_for-first.ensures.wide
+    c.range_for-in-Crossed.ensures.wide s))
     c.at_or_below-in-Crossed.ensures.greatest)
 
 pub returns-in-Crossed-clause-none : goal.returns-in-Crossed-clause-none
 returns-in-Crossed-clause-none c =
     rw c.in-Crossed.is (if_none
-    ((other : ℕ) → rank_of c.in-Crossed.index.ranks other ≤ rank_of c.in-Crossed.index.ranks c.args.row → ¬ (IsCrossed c.in-Crossed.index.rows c.args.hash c.range_for-first.result c.range_for-in-Crossed.result other))
-    ((other : ℕ) → rank_of c.in-Crossed.index.ranks other ≤ rank_of c.in-Crossed.index.ranks c.args.row → ¬ (IsFinderRow (Crossed c.in-Crossed.first c.in-Crossed.second c.in-Crossed.index) c.args.hash c.args.span.now other)) c.at_or_below-in-Crossed.result
-    (λ none other below s. none other below (found_crossed c.in-Crossed.first c.in-Crossed.second c.in-Crossed.index c.args.hash c.args.span.now c.range_for-first.result c.range_for-in-Crossed.result other c.range_for-first.ensures.wide c.range_for-in-Crossed.ensures.wide s))
+    ((other : ℕ) → rank_of c.in-Crossed.index.ranks other ≤ rank_of c.in-Crossed.index.ranks c.args.row
+    → ¬ (IsCrossed c.in-Crossed.index.rows c.args.hash c.range_for-first.result c.range_for-in-Crossed.result other))
+    ((other : ℕ) → rank_of c.in-Crossed.index.ranks other ≤ rank_of c.in-Crossed.index.ranks c.args.row
+    → ¬ (IsFinderRow (Crossed c.in-Crossed.first c.in-Crossed.second c.in-Crossed.index) c.args.hash c.args.span.now
+    other)) c.at_or_below-in-Crossed.result
+    (λ none other below s. none other below (found_crossed c.in-Crossed.first c.in-Crossed.second c.in-Crossed.index
+    c.args.hash c.args.span.now c.range_for-first.result c.range_for-in-Crossed.result other
+    c.range_for-first.ensures.wide c.range_for-in-Crossed.ensures.wide s))
     c.at_or_below-in-Crossed.ensures.none)

@@ -58,23 +58,36 @@ returns-in-Ranged-clause-none c =
 
 pub returns-in-Crossed-clause-met : goal.returns-in-Crossed-clause-met
 returns-in-Crossed-clause-met c =
-    rw c.in-Crossed.is (if_some (λ row. IsCrossed c.in-Crossed.index.rows c.args.hash c.range_for-first.result c.range_for-in-Crossed.result row)
-    (λ row. IsFinderRow (Crossed c.in-Crossed.first c.in-Crossed.second c.in-Crossed.index) c.args.hash c.args.span.now row) c.first-in-Crossed.result
-    (λ row w. crossed_found c.in-Crossed.first c.in-Crossed.second c.in-Crossed.index c.args.hash c.args.span.now c.range_for-first.result c.range_for-in-Crossed.result row c.range_for-first.ensures.narrow c.range_for-in-Crossed.ensures.narrow w) c.first-in-Crossed.ensures.crossed)
+    rw c.in-Crossed.is (if_some (λ row. IsCrossed c.in-Crossed.index.rows c.args.hash c.range_for-first.result
+    c.range_for-in-Crossed.result row)
+    (λ row. IsFinderRow (Crossed c.in-Crossed.first c.in-Crossed.second c.in-Crossed.index) c.args.hash
+    c.args.span.now row) c.first-in-Crossed.result
+    (λ row w. crossed_found c.in-Crossed.first c.in-Crossed.second c.in-Crossed.index c.args.hash c.args.span.now
+    c.range_for-first.result c.range_for-in-Crossed.result row c.range_for-first.ensures.narrow
+    c.range_for-in-Crossed.ensures.narrow w) c.first-in-Crossed.ensures.crossed)
 
 pub returns-in-Crossed-clause-greatest : goal.returns-in-Crossed-clause-greatest
 returns-in-Crossed-clause-greatest c =
     rw c.in-Crossed.is (if_some
-    (λ row. (other : ℕ) → IsCrossed c.in-Crossed.index.rows c.args.hash c.range_for-first.result c.range_for-in-Crossed.result other → rank_of c.in-Crossed.index.ranks other ≤ rank_of c.in-Crossed.index.ranks row)
-    (λ row. (other : ℕ) → IsFinderRow (Crossed c.in-Crossed.first c.in-Crossed.second c.in-Crossed.index) c.args.hash c.args.span.now other → rank_of c.in-Crossed.index.ranks other ≤ rank_of c.in-Crossed.index.ranks row)
+    (λ row. (other : ℕ) → IsCrossed c.in-Crossed.index.rows c.args.hash c.range_for-first.result
+    c.range_for-in-Crossed.result other → rank_of c.in-Crossed.index.ranks other ≤ rank_of c.in-Crossed.index.ranks
+    row)
+    (λ row. (other : ℕ) → IsFinderRow (Crossed c.in-Crossed.first c.in-Crossed.second c.in-Crossed.index) c.args.hash
+    c.args.span.now other → rank_of c.in-Crossed.index.ranks other ≤ rank_of c.in-Crossed.index.ranks row)
     c.first-in-Crossed.result
-    (λ row greatest other s. greatest other (found_crossed c.in-Crossed.first c.in-Crossed.second c.in-Crossed.index c.args.hash c.args.span.now c.range_for-first.result c.range_for-in-Crossed.result other c.range_for-first.ensures.wide c.range_for-in-Crossed.ensures.wide s))
+    (λ row greatest other s. greatest other (found_crossed c.in-Crossed.first c.in-Crossed.second c.in-Crossed.index
+    c.args.hash c.args.span.now c.range_for-first.result c.range_for-in-Crossed.result other
+    c.range_for-first.ensures.wide c.range_for-in-Crossed.ensures.wide s))
     c.first-in-Crossed.ensures.greatest)
 
 pub returns-in-Crossed-clause-none : goal.returns-in-Crossed-clause-none
 returns-in-Crossed-clause-none c =
     rw c.in-Crossed.is (if_none
-    ((other : ℕ) → ¬ (IsCrossed c.in-Crossed.index.rows c.args.hash c.range_for-first.result c.range_for-in-Crossed.result other))
-    ((other : ℕ) → ¬ (IsFinderRow (Crossed c.in-Crossed.first c.in-Crossed.second c.in-Crossed.index) c.args.hash c.args.span.now other)) c.first-in-Crossed.result
-    (λ none other s. none other (found_crossed c.in-Crossed.first c.in-Crossed.second c.in-Crossed.index c.args.hash c.args.span.now c.range_for-first.result c.range_for-in-Crossed.result other c.range_for-first.ensures.wide c.range_for-in-Crossed.ensures.wide s))
+    ((other : ℕ) → ¬ (IsCrossed c.in-Crossed.index.rows c.args.hash c.range_for-first.result
+    c.range_for-in-Crossed.result other))
+    ((other : ℕ) → ¬ (IsFinderRow (Crossed c.in-Crossed.first c.in-Crossed.second c.in-Crossed.index) c.args.hash
+    c.args.span.now other)) c.first-in-Crossed.result
+    (λ none other s. none other (found_crossed c.in-Crossed.first c.in-Crossed.second c.in-Crossed.index c.args.hash
+    c.args.span.now c.range_for-first.result c.range_for-in-Crossed.result other c.range_for-first.ensures.wide
+    c.range_for-in-Crossed.ensures.wide s))
     c.first-in-Crossed.ensures.none)

@@ -74,14 +74,18 @@ returns-clause-greatest c =
     sym (ranks_at c.self.inside.indexes.items c.args.index c.index_mut-keyed.result.now b
     ∙ ap (λ (x : Keyed). ranks_in x.index) (sym c.index_mut-keyed.ensures.value)) in
     rw (c.row_of.ensures, ← c.self.view_is, ← ranks)
-    (if_some (λ row. (other : ℕ) → IsFinderRow c.index_mut-keyed.result.now.index c.key_hash-hash.result c.args.span.now other
-    → rank_of (ranks_in c.index_mut-keyed.result.now.index) other ≤ rank_of (ranks_in c.index_mut-keyed.result.now.index) row)
+    (if_some (λ row. (other : ℕ) → IsFinderRow c.index_mut-keyed.result.now.index c.key_hash-hash.result
+    c.args.span.now other
+    → rank_of (ranks_in c.index_mut-keyed.result.now.index) other ≤ rank_of
+    (ranks_in c.index_mut-keyed.result.now.index) row)
     (λ row. (other : ℕ) → HasKey (slice_get (key_columns c.self.inside.indexes.items) c.args.index)
     c.args.key.now (get_or (live c.self.inside.atoms c.self.inside.alive.items) other None)
     → LiesIn c.args.span.now (get_or (live c.self.inside.atoms c.self.inside.alive.items) other None)
-    → rank_of (ranks_in c.index_mut-keyed.result.now.index) other ≤ rank_of (ranks_in c.index_mut-keyed.result.now.index) row)
+    → rank_of (ranks_in c.index_mut-keyed.result.now.index) other ≤ rank_of
+    (ranks_in c.index_mut-keyed.result.now.index) row)
     c.first.result
-    (λ row greatest other h s. greatest other (sought _ _ _ c.args.index c.index_mut-keyed.result.now.index (way_of c.index_mut-keyed.result.now)
+    (λ row greatest other h s. greatest other
+    (sought _ _ _ c.args.index c.index_mut-keyed.result.now.index (way_of c.index_mut-keyed.result.now)
     c.args.key.now c.key_hash-hash.result c.self.invariant.indexed l here this c.key_hash-hash.ensures
     c.args.span.now refl other h s)) c.first.ensures.greatest)
 

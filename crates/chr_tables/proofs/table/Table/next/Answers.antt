@@ -96,11 +96,14 @@ returns-clause-below c =
     let long = ap length here in
     let few_ranks : length (ranks_in c.index_mut-keyed.result.now.index) < 2 ^ 32 =
     omega (arith, short, long, many, rows, few) in
-    let up = lower (ranks_in c.index_mut-keyed.result.now.index) few_ranks own.within c.args.row c.number_of-row.result c.number_of-row.ensures.same
+    let up = lower (ranks_in c.index_mut-keyed.result.now.index) few_ranks own.within c.args.row
+    c.number_of-row.result c.number_of-row.ensures.same
     c.number_of-row.ensures.greatest in
     rw (c.row_of.ensures, ← c.self.view_is, ← ranks)
-    (if_some (λ next. rank_of (ranks_in c.index_mut-keyed.result.now.index) next < rank_of (ranks_in c.index_mut-keyed.result.now.index) c.number_of-row.result)
-    (λ next. rank_of (ranks_in c.index_mut-keyed.result.now.index) next < rank_of (ranks_in c.index_mut-keyed.result.now.index) c.args.row)
+    (if_some (λ next. rank_of (ranks_in c.index_mut-keyed.result.now.index) next < rank_of
+    (ranks_in c.index_mut-keyed.result.now.index) c.number_of-row.result)
+    (λ next. rank_of (ranks_in c.index_mut-keyed.result.now.index) next < rank_of
+    (ranks_in c.index_mut-keyed.result.now.index) c.args.row)
     c.next.result (λ next below. (omega (arith, below, up))) c.next.ensures.below)
 
 pub returns-clause-greatest : goal.returns-clause-greatest
@@ -131,14 +134,18 @@ returns-clause-greatest c =
     let few_ranks : length (ranks_in c.index_mut-keyed.result.now.index) < 2 ^ 32 =
     omega (arith, short, long, many, rows, few) in
     rw (c.row_of.ensures, ← c.self.view_is, ← ranks)
-    (if_some (λ next. (other : ℕ) → rank_of (ranks_in c.index_mut-keyed.result.now.index) other < rank_of (ranks_in c.index_mut-keyed.result.now.index) c.number_of-row.result
+    (if_some (λ next. (other : ℕ) → rank_of (ranks_in c.index_mut-keyed.result.now.index) other < rank_of
+    (ranks_in c.index_mut-keyed.result.now.index) c.number_of-row.result
     → IsFinderRow c.index_mut-keyed.result.now.index c.key_hash-hash.result c.args.span.now other
-    → rank_of (ranks_in c.index_mut-keyed.result.now.index) other ≤ rank_of (ranks_in c.index_mut-keyed.result.now.index) next)
-    (λ next. (other : ℕ) → rank_of (ranks_in c.index_mut-keyed.result.now.index) other < rank_of (ranks_in c.index_mut-keyed.result.now.index) c.args.row
+    → rank_of (ranks_in c.index_mut-keyed.result.now.index) other ≤ rank_of
+    (ranks_in c.index_mut-keyed.result.now.index) next)
+    (λ next. (other : ℕ) → rank_of (ranks_in c.index_mut-keyed.result.now.index) other < rank_of
+    (ranks_in c.index_mut-keyed.result.now.index) c.args.row
     → HasKey (slice_get (key_columns c.self.inside.indexes.items) c.args.index)
     c.args.key.now (get_or (live c.self.inside.atoms c.self.inside.alive.items) other None)
     → LiesIn c.args.span.now (get_or (live c.self.inside.atoms c.self.inside.alive.items) other None)
-    → rank_of (ranks_in c.index_mut-keyed.result.now.index) other ≤ rank_of (ranks_in c.index_mut-keyed.result.now.index) next)
+    → rank_of (ranks_in c.index_mut-keyed.result.now.index) other ≤ rank_of
+    (ranks_in c.index_mut-keyed.result.now.index) next)
     c.next.result
     (λ next greatest other below h s. greatest other (still_below (ranks_in c.index_mut-keyed.result.now.index)
     few_ranks own.within c.args.row c.number_of-row.result c.number_of-row.ensures.same
@@ -176,9 +183,11 @@ returns-clause-none c =
     let few_ranks : length (ranks_in c.index_mut-keyed.result.now.index) < 2 ^ 32 =
     omega (arith, short, long, many, rows, few) in
     rw (c.row_of.ensures, ← c.self.view_is, ← ranks)
-    (if_none ((other : ℕ) → rank_of (ranks_in c.index_mut-keyed.result.now.index) other < rank_of (ranks_in c.index_mut-keyed.result.now.index) c.number_of-row.result
+    (if_none ((other : ℕ) → rank_of (ranks_in c.index_mut-keyed.result.now.index) other < rank_of
+    (ranks_in c.index_mut-keyed.result.now.index) c.number_of-row.result
     → ¬ (IsFinderRow c.index_mut-keyed.result.now.index c.key_hash-hash.result c.args.span.now other))
-    ((other : ℕ) → rank_of (ranks_in c.index_mut-keyed.result.now.index) other < rank_of (ranks_in c.index_mut-keyed.result.now.index) c.args.row
+    ((other : ℕ) → rank_of (ranks_in c.index_mut-keyed.result.now.index) other < rank_of
+    (ranks_in c.index_mut-keyed.result.now.index) c.args.row
     → HasKey (slice_get (key_columns c.self.inside.indexes.items) c.args.index)
     c.args.key.now (get_or (live c.self.inside.atoms c.self.inside.alive.items) other None)
     → ¬ (LiesIn c.args.span.now (get_or (live c.self.inside.atoms c.self.inside.alive.items) other None)))
