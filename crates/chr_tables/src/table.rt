@@ -187,8 +187,8 @@ impl Table {
         ensures lives { IfSome result (λ next. IsTrue (is_some (get_or self.old.rows next None))) }
         ensures within { IfSome result (λ next.
             LiesBy (get_or self.old.orders index []) span.now (get_or self.old.rows next None)) }
-        ensures greatest { IfSome result (λ next. (other : ℕ) → rank_by self.old index other < rank_by self.old index row
-            → HasKey (slice_get self.old.keys index) key.now (get_or self.old.rows other None) →
+        ensures greatest { IfSome result (λ next. (other : ℕ) → rank_by self.old index other < rank_by self.old index
+            row → HasKey (slice_get self.old.keys index) key.now (get_or self.old.rows other None) →
             LiesIn span.now (get_or self.old.rows other None) →
             rank_by self.old index other ≤ rank_by self.old index next) }
         ensures none { IfNone result ((other : ℕ) → rank_by self.old index other < rank_by self.old index row →
@@ -216,8 +216,8 @@ impl Table {
         ensures lives { IfSome result (λ next. IsTrue (is_some (get_or self.old.rows next None))) }
         ensures within { IfSome result (λ next.
             LiesBy (get_or self.old.orders index []) span.now (get_or self.old.rows next None)) }
-        ensures greatest { IfSome result (λ next. (other : ℕ) → rank_by self.old index other ≤ rank_by self.old index row
-            → HasKey (slice_get self.old.keys index) key.now (get_or self.old.rows other None) →
+        ensures greatest { IfSome result (λ next. (other : ℕ) → rank_by self.old index other ≤ rank_by self.old index
+            row → HasKey (slice_get self.old.keys index) key.now (get_or self.old.rows other None) →
             LiesIn span.now (get_or self.old.rows other None) →
             rank_by self.old index other ≤ rank_by self.old index next) }
         ensures none { IfNone result ((other : ℕ) → rank_by self.old index other ≤ rank_by self.old index row →
