@@ -55,9 +55,8 @@ class Prompts(unittest.TestCase):
         self.assertRegex(told, r"^told 7:\d+$")
         self.assertRegex(again, r"^told 7:\d+$")
         self.assertEqual(int(again.partition(":")[2]), int(told.partition(":")[2]) + 1)
-        self.assertEqual(shown, [
-            "path(1,2,7), path(1,3,-4), open", "path(1,2,7)", "path(1,3,-4)", "true", "open", "path(1,2,7), path(1,3,-4)",
-        ])  # fmt: skip
+        paths = "path(1,2,7), path(1,3,-4)"
+        self.assertEqual(shown, [f"{paths}, open", "path(1,2,7)", "path(1,3,-4)", "true", "open", paths])
 
     def test_extremes_and_zeros(self) -> None:
         self.answers(f"path({MOST},{-MOST - 1},007)\n")
@@ -100,7 +99,8 @@ class Prompts(unittest.TestCase):
             "path(1,2)": "the program declares this name with another number of arguments",
             "? path(1)": "the program declares this name with another number of arguments",
         }
-        self.assertEqual(self.answers("\n".join(rows) + "\n?\n"), [*(f"refused: {why}" for why in rows.values()), "true"])
+        answers = [f"refused: {why}" for why in rows.values()]
+        self.assertEqual(self.answers("\n".join(rows) + "\n?\n"), [*answers, "true"])
 
     def test_a_line_that_is_too_long(self) -> None:
         """It is refused, and the lines after it are answered."""
