@@ -77,7 +77,7 @@ class FolderMember(AnyMember):
     _dropped: Any
     """Ends the node's process, once."""
     _errors: IO[bytes]
-    """What the node's process says of what goes wrong."""
+    """What the nodes' processes have said of what goes wrong."""
     _origin: int
     _told: int
     """How many operations the node's process was told."""
@@ -113,10 +113,17 @@ class FolderMember(AnyMember):
         self._brought = None if program is None else program_bytes(program)
         if self._brought is not None and wide is False:
             check(self._brought, chrrep, wide=False)
-        self._begin(self._brought, origin)
-        self._orders = Orders(self.columns)
-        for fault in self.columns.faults:
-            warn(f"the program names columns in vain: {fault}", ColumnsWarning)
+        self._errors = tempfile.TemporaryFile()
+        try:
+            self._begin(self._brought, origin)
+            self._orders = Orders(self.columns)
+            for fault in self.columns.faults:
+                warn(f"the program names columns in vain: {fault}", ColumnsWarning)
+        except BaseException:
+            if self._is_up:
+                self._dropped()
+            self._errors.close()
+            raise
 
     @property
     def origin(self) -> int:
@@ -252,6 +259,7 @@ class FolderMember(AnyMember):
             self._ended = self._ended or NodeDied("the node was closed")
             self._names.close()
             self._dropped()
+            self._errors.close()
 
     def __repr__(self) -> str:
         state = "ended" if self._ended else f"process {self.pid}"
@@ -263,8 +271,9 @@ class FolderMember(AnyMember):
         self._told = 0
         words = [program_path(self._chrrep), "node", "--data", os.fspath(self.path), "--origin", str(self._origin)]
         words += ["--wide"] if self._wide else []
+        self._errors.seek(0)
+        self._errors.truncate()
         with _file_of(text) as named:
-            self._errors = tempfile.TemporaryFile()
             self._process = Process([*words, *named], self._errors)
             # a member that is dropped ends its process too
             self._dropped = weakref.finalize(self, self._process.close)
@@ -296,7 +305,7 @@ class FolderMember(AnyMember):
             raise LogUnusable(f"the folder {self.path} can't be used: {said}") from died
 
     def _said(self) -> str:
-        """What the node's process has said of what went wrong."""
+        """What the node's process has said of what went wrong, once it has ended."""
         self._errors.seek(0)
         return self._errors.read(4096).decode(errors="replace").strip().removeprefix(_SAYS)
 
