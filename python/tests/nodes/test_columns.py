@@ -194,8 +194,9 @@ class Members(unittest.TestCase):
         words = [sys.executable, "-m", "chrrep.link", str(path)]
         lines = "seen(box,1,oslo)\nseen(box,2,rome)\nseen(box,1.5,oslo)\n? seen(box,_,_)\n"
         ended = subprocess.run(words, input=lines, capture_output=True, text=True, env=env, timeout=60, check=True)
-        self.assertEqual(ended.stdout.splitlines(), [
-            "told 1:1", "told 1:2",
+        *told, refused, shown = ended.stdout.splitlines()
+        self.assertEqual([line.partition(" ")[0] for line in told], ["told", "told"])
+        self.assertEqual([refused, shown], [
             'refused: character 10, argument 2 of seen: 1.5 is no whole number: put it in double quotes, "1.5"',
             "seen(box,2,rome)",
         ])  # fmt: skip
