@@ -54,13 +54,20 @@ def ids_in(feed: bytes, origin: int) -> list[Id]:
 
 def kept_ids(feeds: Path, origin: int) -> list[Id]:
     """The ids that a folder's feeds of an origin tell, once the disk has them too. OSError where it hasn't."""
-    ids: list[Id] = []
-    for path in feeds.glob(f"*-{origin:08x}-*.feed"):
+    for path in _feeds_of(feeds, origin):
         with path.open("rb") as file:
             # who was ended before its sync has left them in memory alone
             os.fsync(file.fileno())
-            ids += ids_in(file.read(), origin)
-    return ids
+    return seen_ids(feeds, origin)
+
+
+def seen_ids(feeds: Path, origin: int) -> list[Id]:
+    """The ids that a folder's feeds of an origin tell, whether or not the disk has them."""
+    return [id for path in _feeds_of(feeds, origin) for id in ids_in(path.read_bytes(), origin)]
+
+
+def _feeds_of(feeds: Path, origin: int) -> list[Path]:
+    return sorted(feeds.glob(f"*-{origin:08x}-*.feed"))
 
 
 class Looks:

@@ -23,7 +23,7 @@ from ..texts import Atom, Change, Id, ProgramText, Verdict, atoms_text, line_of,
 from ..words import Wanted, check_pattern, shape_fault, symbol_fault
 from .any_member import AnyMember
 from .faults import LogUnusable, NoProgram, OriginShared, OtherProgram
-from .feeds import Looks, Tails, kept_ids
+from .feeds import Looks, Tails, kept_ids, seen_ids
 from .kept_names import KeptNames
 from .log import Entry, Program
 from .shown import FolderWatch, Shown
@@ -377,7 +377,9 @@ class FolderMember(AnyMember):
         try:
             ids = kept_ids(self.feeds, tell.sent.origin)
         except OSError as fault:
-            raise LogUnusable(f"the feed of origin {tell.sent.origin} can't be read: {fault.strerror}") from fault
+            self._leave_unsure(tell)
+            why = f"the feed of origin {tell.sent.origin} can't be synced and read: {fault.strerror}"
+            raise LogUnusable(why) from fault
         tell.settle(ids[tell.sent.before:])
 
     def _find_after(self, tell: FolderTell, died: NodeDied) -> None:
@@ -385,9 +387,14 @@ class FolderMember(AnyMember):
         which may be."""
         if died.status is None or died.status < 0:
             self._find_told(tell)
-        elif tell.sent:
+        else:
+            self._leave_unsure(tell)
+
+    def _leave_unsure(self, tell: FolderTell) -> None:
+        """Notes which operations of those that were sent may be told."""
+        if tell.sent:
             with suppress(OSError):
-                tell.unsure = tuple(kept_ids(self.feeds, tell.sent.origin)[tell.sent.before:])
+                tell.unsure = tuple(seen_ids(self.feeds, tell.sent.origin)[tell.sent.before:])
 
     def _up(self) -> None:
         """Begins the node anew where it is needed."""

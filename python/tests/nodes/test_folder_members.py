@@ -227,6 +227,25 @@ class Members(Folders):
         other.tell_many([[("b0",)]] * 5, after=caught.exception)
         self.assertEqual(number_in(other.show()), 5)
 
+    def test_a_feed_that_is_not_synced_after_a_kill_leaves_its_tells_unsure(self) -> None:
+        """What a node that was killed has written may be in memory alone."""
+        member = self.joined()
+        member.tell(("b0",))
+        answer, killed = Process.answer, OSError(5, "Input/output error")
+
+        def answer_and_kill(process: Process, end: float | None) -> str:
+            said = answer(process, end)
+            process.kill()
+            raise NodeDied(f"the node died behind {said}", -signal.SIGKILL)
+
+        with patch.object(Process, "answer", answer_and_kill), patch("os.fsync", side_effect=killed):
+            with self.assertLogs("chrrep.link", "WARNING"), self.assertRaisesRegex(LogUnusable, "synced") as caught:
+                member.tell(("b0",))
+        fault = caught.exception
+        self.assertEqual((fault.told, len(fault.unsure)), ((), 1))
+        self.assertEqual([member.tell(("b0",), after=fault)], [*fault.unsure])
+        self.assertEqual(number_in(member.show()), 2)
+
     def test_a_node_that_does_not_answer(self) -> None:
         member = FolderMember(self.folder, COUNTED, timeout=2.0)
         self.addCleanup(member.close)
