@@ -292,6 +292,20 @@ class Members(Folders):
                 other.tell(("b0",))
                 self.assertLess(came.get(timeout=SECONDS) - time.monotonic(), SECONDS)
 
+    def test_what_is_told_within_a_tick_of_the_clock_is_seen(self) -> None:
+        """The member knows what it told itself, though the times of the files are as before."""
+        member = self.joined()
+        watch = member.watch()
+        watch.look()
+        with patch("chrrep.link.feeds.times_of", return_value={}):
+            watch.look()
+            time.sleep(0.06)
+            watch.look()
+            self.assertIsNone(watch.look())
+            member.tell(("b0",))
+            seen = watch.look()
+        self.assertEqual(seen and seen.came, (("b0",),))
+
     def test_what_is_told_is_heard(self) -> None:
         member, other = self.joined(PATHS), self.joined(None)
         other.tell(("path", 9, 9, 9))
