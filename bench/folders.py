@@ -29,8 +29,6 @@ shorter @ path(X,Y,D) \\ path(X,Y,E) <=> D =< E | true.
 """
 BATCH = 100
 SEEN = 50
-COUNT = b'["count",["path",null,null,null]]\n'
-"""A node has read the folder when it has answered this."""
 
 
 class Node:
@@ -72,7 +70,6 @@ def timed(step: Callable[[int], None], count: int, batch: int) -> float:
 
 def node_rate(program: str, folder: Path, count: int, batch: int) -> float:
     node = Node(program, folder)
-    node.ask([COUNT])
     rate = timed(lambda first: node.tell([tell(first + place) for place in range(batch)]), count, batch)
     node.end()
     return rate
@@ -125,7 +122,7 @@ def told(program: str, folder: Path, count: int, single: int) -> None:
 def opened(program: str, folder: Path, count: int) -> None:
     start = time.monotonic()
     node = Node(program, folder)
-    node.ask([COUNT])
+    node.ask([b'["count",["path",null,null,null]]\n'])
     first = time.monotonic() - start
     node.end()
     lines = [f'["tell",1,[1,{number + 1}],[["path",{number % 1000},{number},{number}]]]\n' for number in range(count)]

@@ -157,20 +157,6 @@ class Workers(unittest.TestCase):
         for workers, parts in ((1, 1), (4, 16)):
             self.expect("run", workers, parts, input_of(lines), output)
 
-    def test_long_answers(self) -> None:
-        """Shows that each write more than 65,536 bytes, with a tell between any two of them."""
-        all_routes = routes(40_000, 100)
-        lines = list(tells(all_routes, 1))
-        answers = ["told"] * len(lines)
-        for number in range(8):
-            all_routes.append((200, number, 7))
-            lines += [f'["tell",1,[2,{number + 1}],[["path",200,{number},7]]]', '["show",1]']
-            answers += ["told", shortest(all_routes)]
-        self.assertGreater(len(answers[-1]), 65_536)
-        output = VERDICT + "".join(f"{answer}\n" for answer in answers)
-        for command, workers in (("run", 1), ("run", 4), ("serve", 1)):
-            self.expect(command, workers, 16, input_of(lines), output)
-
     def expect_read(self, lines: str, answers: str) -> None:
         """Any number of workers reads these lines alike."""
         for workers in (1, 2, 4, 16):

@@ -92,9 +92,9 @@ impl Book {
         self.journal.get(before as usize)
     }
 
-    /// Carries a seat's act out on the board, and answers the place of its entry, which is the last. A refusal has an
-    /// entry, too, and a `settle` that want of memory stopped has one. The caller reads the reply in the entry, since a
-    /// copy could be refused memory after the act is done.
+    /// Carries a seat's act out on the board, and answers the place of its entry, which is the last. A refusal is
+    /// entered as well, and so is a `settle` that was stopped. The reply is read in the entry: a copy of it could be
+    /// refused memory when the act is done.
     ///
     /// # Errors
     /// Where memory is refused to any act but a `settle`, or to the entry. The act is handed back, and the book is as

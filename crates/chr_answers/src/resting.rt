@@ -17,6 +17,9 @@ use chr_replica::{Destination, LeasedPart, Placed, RestedOps};
 use chr_worlds::World;
 use std::alloc::{AllocError, Global};
 
+/// The most parts that are known by their numbers. What a thread that reads lines carries is one of the last of them.
+const MOST_PARTS: usize = 64;
+
 /// The atoms of all these operations.
 fn atoms_of(alloc: Global, ops: &[Op]) -> Result<Vec<Atom>, AllocError>
     ensures { IfOk result (λ atoms. store_of atoms.items ≡ sum_of ops.now) }
@@ -50,12 +53,12 @@ fn destination(tells: &Tells) -> Destination {
     }
 }
 
-/// Keeps the number of a part that was leased out. Where `most` are kept already, the first of them is dropped.
-fn push_part(parts: &mut Vec<u64>, most: usize, placed: Placed) -> Result<(), AllocError> {
+/// Keeps the number of a part that was leased out. Where [`MOST_PARTS`] are kept already, the first of them is dropped.
+fn push_part(parts: &mut Vec<u64>, placed: Placed) -> Result<(), AllocError> {
     let Placed::Leased(number) = placed else {
         return Ok(());
     };
-    if !parts.is_empty() && parts.len() >= most {
+    if parts.len() >= MOST_PARTS {
         parts.remove(0);
     }
     parts.push(number)?;
@@ -88,7 +91,6 @@ fn tell_alone(
     alloc: Global,
     world: &mut World,
     parts: &mut Vec<u64>,
-    most: usize,
     tells: &Tells,
 ) -> Result<Option<u64>, AllocError>
     requires between { AreBetweenLines (shared_program world.old) world.old.replicas }
@@ -108,7 +110,7 @@ fn tell_alone(
     let Some(placed) = found else {
         return Ok(None);
     };
-    push_part(parts, most, placed)?;
+    push_part(parts, placed)?;
     Ok(Some(waiting(&tells.rested, placed)))
 }
 
@@ -188,12 +190,11 @@ fn tell_unrested(alloc: Global, world: &mut World, tells: &Tells) -> Result<Opti
 
 /// Tells a replica operations that were rested, where there is that replica and they are all new, and answers how many
 /// more atoms wait in its pool. Else nothing is answered, and nothing changes. `parts` has the numbers of the parts
-/// that may be carried on, `most` at most.
+/// that may be carried on.
 pub(crate) fn tell_replica(
     alloc: Global,
     world: &mut World,
     parts: &mut Vec<u64>,
-    most: usize,
     tells: &Tells,
 ) -> Result<Option<u64>, AllocError>
     requires between { AreBetweenLines (shared_program world.old) world.old.replicas }
@@ -204,7 +205,7 @@ pub(crate) fn tell_replica(
     ensures same { IfOk result (λ found. IfNone found (world.new.replicas ≡ world.old.replicas)) }
 {
     if tells.carried.part.is_empty() {
-        return tell_alone(alloc, world, parts, most, tells);
+        return tell_alone(alloc, world, parts, tells);
     }
     match place_of(world, parts, tells) {
         Some(place) => tell_carried(alloc, world, parts, place, tells),

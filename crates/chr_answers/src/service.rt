@@ -20,7 +20,7 @@ ghost use Rattle.chr_answers.specs.Services.{IsBetweenLines};
 use crate::reply::{Refusal, Reply, text_of_delta};
 use crate::request::Request;
 use crate::resting::tell_replica;
-use crate::scheduler::{Moment, Rest, Scheduler, most_pools, told};
+use crate::schedule::{Moment, Rest, Schedule, most_pools, told};
 use crate::sharing::Sharing;
 use crate::tells::Tells;
 use chr_base::program::Program;
@@ -41,7 +41,7 @@ pub struct Service {
     /// The replicas.
     pub world: World,
     /// When they are rested, and by whom.
-    pub(crate) scheduler: Scheduler,
+    pub(crate) schedule: Schedule,
 }
 
 /// Whether memory was refused to a pool's rest.
@@ -66,11 +66,11 @@ impl Service {
         ensures operations { IfOk result (λ service. held service ≡ replicate replicas finite.empty) }
     {
         events_keep_replicas_sound();
-        let scheduler = Scheduler::open(alloc, &accepted, replicas, sharing)?;
+        let schedule = Schedule::open(alloc, &accepted, replicas, sharing)?;
         let accepted = Arc::new(alloc, accepted.in_pools(most_pools(sharing)))?;
         Ok(Service {
             world: World::open(alloc, accepted, replicas)?,
-            scheduler,
+            schedule,
         })
     }
 
@@ -82,8 +82,8 @@ impl Service {
     }
 
     /// When its replicas are rested, and by whom.
-    pub fn scheduler(&self) -> &Scheduler {
-        &self.scheduler
+    pub fn schedule(&self) -> &Schedule {
+        &self.schedule
     }
 
     /// Whether a part of a replica is out.
@@ -112,7 +112,7 @@ impl Service {
         if was_stopped(&settled) {
             return Err(AllocError);
         }
-        self.scheduler.note_waiting(&self.world, replica, 0);
+        self.schedule.note_waiting(&self.world, replica, 0);
         Ok(())
     }
 
@@ -129,10 +129,10 @@ impl Service {
         ensures operations { OnOk result (held self.new ≡ held self.old) }
         ensures rests { OnOk result (AreAtRest self.new replica) }
     {
-        let Sharing { workers, parts, .. } = self.scheduler.sharing();
+        let Sharing { workers, parts, .. } = self.schedule.sharing();
         self.world.rest(rt, alloc, replica, workers, parts)?;
-        self.scheduler.note_waiting(&self.world, replica, 0);
-        self.scheduler.forget_parts();
+        self.schedule.note_waiting(&self.world, replica, 0);
+        self.schedule.forget_parts();
         Ok(())
     }
 
@@ -152,7 +152,7 @@ impl Service {
         if self.has_parts_out(replica) {
             return self.settle_shared(rt, alloc, replica);
         }
-        match self.scheduler.decide(&self.world, replica, Moment::Shown) {
+        match self.schedule.decide(&self.world, replica, Moment::Shown) {
             Rest::AllWorkers => self.settle_shared(rt, alloc, replica),
             Rest::OneWorker | Rest::Nobody => self.settle_alone(replica),
         }
@@ -171,7 +171,7 @@ impl Service {
         ensures program { self.new.world.accepted ≡ self.old.world.accepted }
         ensures operations { OnOk result (held self.new ≡ held self.old) }
     {
-        match self.scheduler.decide(&self.world, replica, moment) {
+        match self.schedule.decide(&self.world, replica, moment) {
             Rest::Nobody => Ok(()),
             Rest::OneWorker => self.settle_alone(replica),
             Rest::AllWorkers => self.settle_shared(rt, alloc, replica),
@@ -180,17 +180,17 @@ impl Service {
 
     /// The number of its replicas, which are counted from 1 on.
     pub fn replicas(&self) -> u64 {
-        self.scheduler.replicas()
+        self.schedule.replicas()
     }
 
     /// Whether enough waits in a pool that workers are to rest it before more lines are answered.
     pub fn is_to_rest(&self) -> bool {
-        self.scheduler.is_to_rest(&self.world)
+        self.schedule.is_to_rest(&self.world)
     }
 
     /// Whether enough waits in a replica's pool that it is rested by workers between two blocks of lines.
     pub fn is_waiting(&self, replica: u64) -> bool {
-        self.scheduler.decide(&self.world, replica, Moment::Between) != Rest::Nobody
+        self.schedule.decide(&self.world, replica, Moment::Between) != Rest::Nobody
     }
 
     /// Rests a replica's pool by workers between two blocks of lines, where enough waits in it.
@@ -245,17 +245,16 @@ impl Service {
     {
         let replica = tells.replica;
         let before = told(&self.world, replica);
-        let waiting = self.scheduler.waiting(&self.world, replica);
-        let most = self.scheduler.schedule().most_parts;
-        let parts = &mut self.scheduler.parts;
-        let Some(more) = tell_replica(alloc, &mut self.world, parts, most, tells)? else {
-            self.scheduler.note_missed();
+        let waiting = self.schedule.waiting(&self.world, replica);
+        let parts = &mut self.schedule.parts;
+        let Some(more) = tell_replica(alloc, &mut self.world, parts, tells)? else {
+            self.schedule.note_missed();
             return Ok(false);
         };
         let came = told(&self.world, replica).saturating_sub(before);
-        self.scheduler
+        self.schedule
             .note_waiting(&self.world, replica, waiting.saturating_add(more));
-        self.scheduler.note_rested(tells, came, more);
+        self.schedule.note_rested(tells, came, more);
         self.rest_by_schedule(rt, alloc, replica, Moment::Told)?;
         Ok(true)
     }
@@ -309,7 +308,7 @@ impl Service {
         ensures { IsAnsweredAt self.now self.now replica
             (AnswersShow (declarations (served self.now)) (rules_of (served self.now))) result }
     {
-        let threads = self.scheduler.workers() as usize;
+        let threads = self.schedule.workers() as usize;
         let shown = self.world.show(rt, alloc, replica, threads)?;
         Ok(Reply::shown(shown))
     }
@@ -330,7 +329,7 @@ impl Service {
         ensures same { IfOk result (λ shown. OnFalse shown (out.new ≡ out.old)) }
     {
         match self.world.board(replica) {
-            Some(board) => board.push_shown(rt, alloc, self.scheduler.workers() as usize, out),
+            Some(board) => board.push_shown(rt, alloc, self.schedule.workers() as usize, out),
             None => Ok(false),
         }
     }

@@ -57,7 +57,7 @@ module _ (ts : List Contents) (t : ℕ) (x y : Contents) (a : Atom) (within : t 
 
 -- a table that did not change is put back
 pub set_same : (ts : List Contents) (t : ℕ) (x y : Contents) → t < length ts → x ≡ get_or ts t x → y.rows ≡ x.rows
-    → y.keys ≡ x.keys → y.orders ≡ x.orders → y.ranks ≡ x.ranks → set ts t y ≡ ts
-set_same ts t x y l here e f g h =
-    let same : y ≡ x = (λ i. record { rows = e i; keys = f i; orders = g i; ranks = h i }) in
+    → y.keys ≡ x.keys → y.orders ≡ x.orders → set ts t y ≡ ts
+set_same ts t x y l here e f g =
+    let same : y ≡ x = (λ i. record { rows = e i; keys = f i; orders = g i }) in
     ap (set ts t) (same ∙ here ∙ get_or_default ts t x no_table l) ∙ set-get_or ts t no_table

@@ -15,8 +15,7 @@ use Rattle.chr_base.proofs.Stores.{same_store, count_plus}
 use Rattle.chr_plans.specs.declared.rows.Seat.{Seat}
 use Rattle.chr_plans.specs.Rows.{Tables}
 use Rattle.chr_plans.specs.Seats.{seat, no_seat}
-use Rattle.chr_tables.specs.Contents.{Contents, no_table, rows_of, index_columns, ranks_of}
-use Rattle.chr_portions.specs.RankedPairs.{rank_of}
+use Rattle.chr_tables.specs.Contents.{Contents, no_table, rows_of, index_columns}
 use Rattle.chr_plans.specs.Actives.{one}
 use Rattle.chr_plans.specs.Grids.{Grid, live_atoms, contents, rows_in, without_row, without_rows}
 use Rattle.chr_plans.proofs.SeatedRows.{total_in, count_contents}
@@ -95,14 +94,6 @@ same_columns ts us e j t i = (
 pub keys_set : (ts : List Contents) (t : ℕ) (x : Contents) → x.keys ≡ (get_or ts t no_table).keys
     → map (λ (c : Contents). c.keys) (set ts t x) ≡ map (λ (c : Contents). c.keys) ts
 keys_set ts t x e = map-set_same (λ (c : Contents). c.keys) ts t x no_table e
-
--- tables whose ranks are the same have the same ranks of rows
-pub same_ranks : (ts us : List Contents) → map (λ (c : Contents). c.ranks) ts ≡ map (λ (c : Contents). c.ranks) us
-    → ranks_of ts ≡ ranks_of us
-same_ranks ts us e j t i n = (
-    ap (λ rs. rank_of (get_or rs i []) n)
-    (sym (get_or-map (λ (c : Contents). c.ranks) ts t no_table) ∙ ap (λ rs. get_or rs t []) e
-    ∙ get_or-map (λ (c : Contents). c.ranks) us t no_table)) j
 
 -- a row more
 pub grid_set : (ts : List Contents) (t : ℕ) (x : Contents) → grid (set ts t x) ≡ set (grid ts) t x.rows
@@ -238,13 +229,6 @@ module _ (ts us : List Contents) (ss : List Seat) (i : ℕ) (x y : Contents) (le
   pub kill_keys : map (λ (c : Contents). c.keys) ts ≡ map (λ (c : Contents). c.keys) us
       → map (λ (c : Contents). c.keys) (set ts (seat ss i).table y) ≡ map (λ (c : Contents). c.keys) us
   kill_keys e = keys_set ts (seat ss i).table y (keys ∙ ap (λ (c : Contents). c.keys) it) ∙ e
-
-  pub kill_ranks : y.ranks ≡ x.ranks → map (λ (c : Contents). c.ranks) ts ≡ map (λ (c : Contents). c.ranks) us
-      → map (λ (c : Contents). c.ranks) (set ts (seat ss i).table y) ≡ map (λ (c : Contents). c.ranks) us
-  kill_ranks ranks e =
-      map-set_same (λ (c : Contents). c.ranks) ts (seat ss i).table y no_table
-      (ranks ∙ ap (λ (c : Contents). c.ranks) it)
-      ∙ e
 
   pub kill_many : AsMany ts us → AsMany (set ts (seat ss i).table y) us
   kill_many h = as_many_set ts us (seat ss i).table (seat ss i).row y

@@ -68,15 +68,14 @@ IsFailureOf rules o f =
     (before : List Case) × (c : Case) × (after : List Case) × AreCases rules o (before ++ c ∷ after)
     × IsFailureAt rules o c f
 
--- f is that of the case c of the overlap, whose store has n atoms at most
+-- and its store has n atoms at most
 abbrev pub IsSmallerFailureAt : List Rule → Overlap → Case → ℕ → Failure → Type 0
 IsSmallerFailureAt rules o c n f = IsFailureAt rules o c f × (size f.left.start ≤ n)
 
--- f is that of some case of the overlap whose store has n atoms at most
 abbrev pub IsSmallerFailureOf : List Rule → Overlap → ℕ → Failure → Type 0
 IsSmallerFailureOf rules o n f = IsFailureOf rules o f × (size f.left.start ≤ n)
 
--- f is that of some case, of some overlap of the rules, whose store has n atoms at most
+-- the same of some overlap of the rules
 abbrev pub IsSmallerFailure : List Rule → ℕ → Failure → Type 0
 IsSmallerFailure rules n f = (o : Overlap) × IsOverlapOf rules o × IsSmallerFailureOf rules o n f
 
@@ -97,7 +96,7 @@ IsCountedBy Joint rules c = ((cs : List Case) × AreCases rules c.overlap cs × 
     ⊎ ((n : ℕ) × IsTooMany rules c.overlap n × (c.cases ≡ 0))
 IsCountedBy Sorted rules c = c.cases ≡ 0
 
--- all overlaps, each with the number of its cases that is told
+-- all overlaps, each with that number
 pub record AreCountedBy (coverage : Coverage) (rules : List Rule) (counts : List Counted) : Type 0 where
   pub overlaps : AreOverlaps rules (map (λ c. c.overlap) counts)
   pub each : All (IsCountedBy coverage rules) counts

@@ -17,9 +17,7 @@ use std::alloc::{AllocError, Global};
 /// Two facts of one symbol, which may be equal.
 #[derive(Drop)]
 pub struct Pair {
-    /// The first fact.
     pub first: Atom,
-    /// The second fact.
     pub second: Atom,
     /// For each column whether the two differ there.
     pub apart: Vec<bool>,

@@ -16,7 +16,6 @@ pub(crate) struct Pair {
 pub(crate) struct Draft {
     /// The place of a head that is kept and no more removed, counted from 0 among the removed ones.
     pub kept: Option<usize>,
-    /// The comparisons of the changed rule.
     pub guard: Vec<Comparison>,
     /// Variables that are made one.
     pub equal: Vec<Pair>,
@@ -135,7 +134,7 @@ fn stricter(alloc: Global, rule: &Rule, place: usize) -> Result<Option<Draft>, A
     Ok(Some(guarded(alloc, guard)))
 }
 
-/// The rule with a comparison of these two variables beside its own.
+/// The rule that compares these two variables too.
 fn comparing(
     alloc: Global,
     guard: &[Comparison],

@@ -3,7 +3,7 @@
 /// How many steps of a derivation are told.
 pub const MAX_TOLD_STEPS: usize = 100;
 
-/// Once this many cases were looked at for one with a smaller store, no further overlap is looked at.
+/// How many cases are looked at for one with a smaller store: no further overlap once there were so many.
 pub const MAX_LOOKED_AT: usize = 50_000;
 
 /// How many changes of one rule are tried.
@@ -18,7 +18,7 @@ pub const MAX_PROPOSALS: usize = 3;
 /// The values of small stores are the numbers from 0 on below this one, or 0 and 1 where that were too many atoms.
 pub const MOST_VALUES: usize = 3;
 
-/// The greatest number of different atoms, with `MOST_VALUES` values, of which small stores are made.
+/// So many atoms have small stores with `MOST_VALUES` values.
 pub const MAX_SMALL_ATOMS: usize = 81;
 
 /// The greatest number of atoms of a small store.

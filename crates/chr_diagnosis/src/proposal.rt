@@ -18,13 +18,9 @@ use std::thread::Threads;
 /// Rules to be tried in place of one of a text's clauses.
 #[derive(Drop)]
 pub(crate) struct Try {
-    /// The number of the rule in whose place they are tried, counted from 1.
     pub(crate) rule: usize,
-    /// How many bytes of the text stand before its clause.
     pub(crate) from: usize,
-    /// How many bytes of the text stand before the end of its clause.
     pub(crate) to: usize,
-    /// The rules, each in its line.
     pub(crate) rules: String,
     /// Whether they fire only where two columns are equal, of which the rule compared none.
     pub(crate) is_narrow: bool,

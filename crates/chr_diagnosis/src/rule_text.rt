@@ -21,7 +21,6 @@ pub struct NamedProgram<'a> {
 pub struct ToldRule<'a> {
     /// The program that it is a rule of.
     pub program: &'a Program,
-    /// The rule itself.
     pub rule: &'a Rule,
     /// Its number there, counted from 1.
     pub number: usize,

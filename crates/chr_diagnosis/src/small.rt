@@ -19,7 +19,7 @@ struct Picked {
     places: ArrayVec<usize, MAX_STORE_ATOMS>,
 }
 
-/// The number of atoms with `arity` arguments, each of which may have `values` values.
+/// The number of atoms of so many arguments with so many values.
 fn count_of(arity: usize, values: usize) -> usize {
     let mut count: usize = 1;
     for _ in 0..arity.min(MAX_ARITY) {
@@ -83,7 +83,7 @@ pub(crate) fn push_atoms_of(
     Ok(())
 }
 
-/// Adds these places with one more at the end, for each place that may stand there: the last of them or a later one.
+/// Adds what has one place more: of each so many the last place or a later one.
 fn push_longer(
     longer: &mut Vec<Picked>,
     picked: &Picked,

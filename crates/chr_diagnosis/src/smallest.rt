@@ -75,8 +75,7 @@ fn smallest_in(
     }
 }
 
-/// Like [`smallest_in`], but none where the overlap's cases have another number of atoms than `atoms`, or where
-/// `MAX_LOOKED_AT` cases or more were looked at before.
+/// The same, where the overlap's cases have so many atoms, and fewer than `MAX_LOOKED_AT` cases were looked at before.
 fn smallest_at(
     alloc: Global,
     weighed: &Weighed,
@@ -94,7 +93,7 @@ fn smallest_at(
     smallest_in(alloc, weighed, overlap, store, looked_at)
 }
 
-/// Of the cases with `atoms` atoms that fail the one with the smallest store, where that is smaller than this.
+/// Of the cases with so many atoms that fail the one with the smallest store, where that is smaller than this.
 fn smallest_with(
     alloc: Global,
     weighed: &Weighed,
@@ -163,7 +162,7 @@ fn smaller_ways(
     Ok(Some(ways_of(alloc, weighed, failure)?))
 }
 
-/// Like [`smaller_ways`], but none where memory is refused.
+/// The same; none where memory is refused.
 pub(crate) fn smaller_where_told(alloc: Global, weighed: &Weighed, first: &Failure) -> Option<Ways>
     ensures { IfSome result (AreSmallerWays (rules_in weighed.now) first.now) }
 {

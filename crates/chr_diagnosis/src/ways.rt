@@ -17,7 +17,7 @@ pub struct Ways {
     pub failure: Failure,
     /// The stores after the first steps of the left side, `MAX_TOLD_STEPS` at most.
     pub left: Vec<Bag>,
-    /// The stores after the first steps of the right side, `MAX_TOLD_STEPS` at most.
+    /// The same of the right side.
     pub right: Vec<Bag>,
 }
 

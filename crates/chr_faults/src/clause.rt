@@ -15,7 +15,7 @@ pub(crate) struct PlacedClause<'a> {
     pub before: usize,
 }
 
-/// How many bytes there are up to the full stop that is number `stops`, or at all where there are fewer full stops.
+/// How many bytes there are up to so many full stops, or at all where there are fewer.
 fn after_stops(plain: &[u8], stops: usize) -> usize
     ensures value { result ≡ after_stops stops plain.now }
     ensures within { result ≤ length plain.now }

@@ -77,7 +77,7 @@ pub(crate) fn push_symbols(
     })
 }
 
-/// Where the byte stands that has `outside` bytes outside comments before it: at the text's end where there is none.
+/// Where the byte stands that has so many bytes outside comments before it: at the text's end where there is none.
 #[tactic(auto, using(crate::proofs::Outside::outside_within))]
 fn place_in(text: &[u8], outside: usize) -> usize
     ensures value { result ≡ unwrap_or (place_outside text.now outside) (length text.now) }
@@ -193,7 +193,7 @@ fn remedy_of(
     Ok(remedy)
 }
 
-/// What is told of a bad clause, before which `before` bytes stand outside comments.
+/// What is told of a bad clause, of which this was found behind so many bytes outside comments.
 fn found_note(
     alloc: Global,
     source: Source<'_>,

@@ -243,13 +243,9 @@ fn comparisons_over<'a>(tokens: &[PlacedToken<'a>]) -> Option<Finding<'a>> {
 /// A rule's atoms and tokens, parted at its sign.
 #[derive(Drop)]
 struct Parts<'t, 'a> {
-    /// The atoms before the sign.
     heads: Vec<PlacedAtom<'a>>,
-    /// The atoms from the sign on.
     body: Vec<PlacedAtom<'a>>,
-    /// The tokens before the sign, without a label.
     left: &'t [PlacedToken<'a>],
-    /// The tokens from the sign on.
     right: &'t [PlacedToken<'a>],
 }
 

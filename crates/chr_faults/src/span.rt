@@ -19,8 +19,7 @@ impl Span {
     }
 }
 
-/// The bytes of a text from one up to another: before the one stand `first` bytes outside comments, before the other
-/// `last`.
+/// The bytes of a text from the one with so many bytes outside comments before it, up to the one with so many of them.
 fn span_between(text: &[u8], first: usize, last: usize) -> Option<Span> {
     let from = place_outside(text, first)?;
     let stop = place_outside(text, last)?;
@@ -30,7 +29,7 @@ fn span_between(text: &[u8], first: usize, last: usize) -> Option<Span> {
     })
 }
 
-/// Where a clause stands in a text, `before` of whose bytes outside comments stand before it.
+/// Where a clause stands in a text, behind so many bytes outside comments.
 fn span_of(
     alloc: Global,
     text: &[u8],

@@ -53,9 +53,8 @@ pub(crate) enum Wanted {
 pub(crate) struct Stuck<'a> {
     /// The token before; none at the clause's beginning.
     pub after: Option<&'a [u8]>,
-    /// What belongs there.
     pub wanted: Wanted,
-    /// What stands there; none at the clause's end.
+    /// None at the clause's end.
     pub found: Option<PlacedToken<'a>>,
     /// How many tokens stand before what was found.
     pub place: usize,
@@ -64,16 +63,12 @@ pub(crate) struct Stuck<'a> {
 /// What stands after `use_module`.
 const LIBRARY: [&str; 6] = ["(", "library", "(", "chr", ")", ")"];
 
-/// Which tokens part a rule, by their places, counted from 0. Where there is none its place is the number of tokens.
+/// Which tokens of a rule part it; their number where there is none.
 #[derive(Clone, Copy)]
 struct Parting {
-    /// The backslash behind kept heads.
     backslash: usize,
-    /// The sign `<=>` or `==>`.
     arrow: usize,
-    /// The bar behind the guard.
     bar: usize,
-    /// The number of the rule's tokens.
     len: usize,
 }
 

@@ -21,8 +21,8 @@ use std::thread::Threads;
 /// The number of overlaps that are first looked at ahead of their turn.
 pub(crate) const BATCH: usize = 64;
 
-/// Each batch is this many times as large as all before it. Few threads are started then, and where an overlap ends the
-/// verdict, the overlaps that were looked at in vain are at most this many times the others.
+/// Each next time, this many times as many overlaps are looked at as were looked at before. So few threads are started,
+/// and an overlap that ends the verdict wastes no more than that.
 const GROWTH: usize = 3;
 
 /// The next overlaps from this place on, at most `most`.

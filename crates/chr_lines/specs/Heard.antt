@@ -24,7 +24,7 @@ IsRefusedAs heard.Blank n = ⊥
 abbrev pub IsReplica : ℕ → ℕ → Type 0
 IsReplica k r = (1 ≤ r) × (r ≤ k)
 
--- it is taken where there are replicas of both numbers, and refused as 35 where one is 0 or above every run's
+-- it is taken by as many replicas as have these two numbers, and refused as 35 where no run has so many
 abbrev pub NamesReplicas : Heard → ℕ → ℕ → Type 0
 NamesReplicas (heard.Taken r) a b = (k : ℕ) → (r ≤ k) ↔ (IsReplica k a × IsReplica k b)
 NamesReplicas (heard.Refused m) a b =

@@ -23,7 +23,7 @@ use std::alloc::{AllocError, Global};
 pub enum Heard {
     /// It is passed over.
     Blank,
-    /// It is taken where there are at least this many replicas, unless what came before it keeps it from that.
+    /// It is taken where there are at least so many replicas, unless what came before it keeps it from that.
     Taken(u64),
     /// It is refused, whatever came before it.
     Refused(Mistake),

@@ -17,16 +17,12 @@ enum Next {
     Nothing,
 }
 
-/// A walk along bytes.
+/// A walk along bytes: where it is, what may come next, and which brackets are open.
 #[derive(Drop)]
 struct Walk<'a> {
-    /// All bytes.
     text: &'a [u8],
-    /// How many of them it has passed.
     at: usize,
-    /// What may come next.
     next: Next,
-    /// The brackets that are open, the outermost first.
     open: Vec<u8>,
 }
 
@@ -293,7 +289,7 @@ fn is_at_end(fault: JsonFault) -> bool {
     matches!(fault, JsonFault::Ends(_) | JsonFault::OpenText)
 }
 
-/// What is wrong with bytes of which the first `valid` are UTF-8, and the next ones are not.
+/// What is wrong with bytes of which so many are UTF-8, and the next ones are not.
 fn foreign_fault(alloc: Global, text: &[u8], valid: usize) -> Result<NoJson, AllocError> {
     let before = form_fault(alloc, text.get(..valid).unwrap_or(&[]))?;
     if !is_at_end(before.fault) {

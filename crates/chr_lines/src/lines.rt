@@ -18,15 +18,15 @@ pub(crate) struct RefusedLine<'a> {
 /// What a run makes of the lines of an input.
 #[derive(Drop)]
 pub(crate) struct LinesHeard<'a> {
-    /// How many lines are not blank.
+    /// How many are no blank ones.
     pub count: usize,
-    /// How many lines are refused whatever came before them.
+    /// How many are refused whatever came before them.
     pub refused: usize,
-    /// The first of the refused lines.
+    /// The first of those.
     pub told: Vec<RefusedLine<'a>>,
-    /// How many replicas there must be at least for all other lines to be taken.
+    /// By how many replicas all others are taken.
     pub replicas: u64,
-    /// The number of the first line that wants more than one replica.
+    /// The number of the first line that one replica does not do for.
     pub first: Option<usize>,
 }
 
@@ -36,7 +36,7 @@ fn without_return(line: &[u8]) -> &[u8] {
 }
 
 impl<'a> LinesHeard<'a> {
-    /// Notes a line that is taken where there are at least `replicas` replicas.
+    /// Notes a line that so many replicas take.
     fn take(&mut self, number: usize, replicas: u64) {
         self.count = self.count.saturating_add(1);
         self.replicas = self.replicas.max(replicas);

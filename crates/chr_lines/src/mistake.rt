@@ -10,7 +10,7 @@ use chr_json::MAX_LINE;
 pub enum JsonFault {
     /// They are not UTF-8.
     NoText,
-    /// The bytes end, with this many brackets open.
+    /// They end, with so many brackets open.
     Ends(usize),
     /// A text has no double quote at its end.
     OpenText,

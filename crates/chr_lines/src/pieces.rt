@@ -15,9 +15,8 @@ pub(crate) fn value_start(line: &[u8]) -> usize {
 struct Walk {
     /// How many brackets are open.
     depth: usize,
-    /// Whether the next byte is one of a text.
     in_text: bool,
-    /// Whether a backslash stands before the next byte.
+    /// Whether a backslash stands before.
     is_escaped: bool,
     /// Whether the next element has not begun.
     expects: bool,

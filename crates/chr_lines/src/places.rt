@@ -74,7 +74,7 @@ pub(crate) struct Missing {
     arity: usize,
 }
 
-/// The first of these atoms that the program doesn't declare. `before` atoms stand before these in their line.
+/// The first of these atoms that the program doesn't declare. So many stand before them in their line.
 fn missing_among(
     alloc: Global,
     program: &Program,

@@ -19,12 +19,12 @@ fn wrong(line: &[u8], at: usize, wanted: Wanted) -> NoCommand {
     }
 }
 
-/// What stands at a place where something else belongs, as what is wrong with a part.
+/// The same, as what is wrong with a part.
 fn is_wrong(line: &[u8], at: usize, wanted: Wanted) -> Checked {
     Ok(Some(wrong(line, at, wanted)))
 }
 
-/// The elements of an array, where there are `count`; else what is wrong with it.
+/// The elements of an array of so many. Else what is wrong with it.
 fn parts_at(
     alloc: Global,
     line: &[u8],

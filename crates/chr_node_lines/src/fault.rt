@@ -60,7 +60,7 @@ impl Refusal {
             Refusal::NoWord => "the line is no array that begins with a word of a node",
             Refusal::UnknownSymbol => "the program declares no symbol of this name",
             Refusal::Clash => "the number stands for other atoms",
-            Refusal::Full => "more than 900000 atoms would be told",
+            Refusal::Full => "more than 1000000 atoms would be told",
             Refusal::NotNext => "the number is not the next one",
             Refusal::NoText => "the operation has no text that can be kept",
             Refusal::WrongArguments => "the word takes other arguments",

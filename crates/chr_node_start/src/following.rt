@@ -2,14 +2,12 @@
 ghost use Rattle.std.specs.Prelude.{◌≡◌};
 ghost use Rattle.chr_node_start.specs.working.Hearing.{Hears};
 
-use crate::cause::Cause;
 use chr_node::{Holder, Node, NodeFault, Refusal, TakenIn};
 use chr_node_files::{is_feed, is_feed_of, names_in, path_in, records_behind};
 use chr_node_lines::{FileSize, LeftFile};
 use chr_node_talk::Folder;
 use sqlite_disk::{Disk, Memory};
 use std::alloc::{AllocError, Global};
-use std::collections::HashSet;
 use std::fs::{File, Files};
 use std::io;
 
@@ -20,7 +18,7 @@ struct Followed {
     /// The bytes of the records that were taken in.
     size: u64,
     /// Why it is left alone, if it is.
-    left: Option<Cause>,
+    left: Option<String>,
 }
 
 /// The files of a folder but the one that the node writes, in the order in which they were found.
@@ -33,10 +31,6 @@ pub(crate) struct Others<'a, R> {
     /// What stands for the program in the names of its feeds.
     digest: u64,
     files: Vec<Followed>,
-    /// The names of the files.
-    known: HashSet<String>,
-    /// Whether the folder could be listed at the last look.
-    is_listed: bool,
 }
 
 /// What comes of the next records of a file.
@@ -46,7 +40,7 @@ enum Step {
     /// They were taken in, and have so many bytes.
     Went(u64),
     /// The file is left alone, for this cause.
-    Left(Cause),
+    Left(&'static str),
 }
 
 impl<'a, R: Files<File = File> + AllocGlobal + Clone + Drop> Others<'a, R> {
@@ -57,24 +51,18 @@ impl<'a, R: Files<File = File> + AllocGlobal + Clone + Drop> Others<'a, R> {
             own,
             digest,
             files: Vec::new(rt.alloc()),
-            known: HashSet::new(rt.alloc()),
-            is_listed: true,
         }
     }
 
-    // Adds the files that are new in the folder. While it can't be listed there are none.
+    // Adds the files that are new in the folder. While it can't be read there are none.
     fn list(&mut self, alloc: Global) -> Result<(), AllocError> {
         let names = match names_in(self.rt, self.folder.as_str()) {
             Ok(names) => names,
             Err(error) if error.kind() == io::ErrorKind::OutOfMemory => return Err(AllocError),
-            Err(_) => {
-                self.is_listed = false;
-                return Ok(());
-            }
+            Err(_) => return Ok(()),
         };
-        self.is_listed = true;
         for name in names {
-            if name.as_str() != self.own.as_str() && self.known.insert(name.clone()?)? {
+            if name.as_str() != self.own.as_str() && !self.has(name.as_str()) {
                 let file = found(alloc, self.digest, name)?;
                 self.files.push(file)?;
             }
@@ -82,22 +70,9 @@ impl<'a, R: Files<File = File> + AllocGlobal + Clone + Drop> Others<'a, R> {
         Ok(())
     }
 
-    // Has files that could not be read be read again: that may have passed.
-    fn try_again(&mut self) {
-        for file in self.files.iter_mut() {
-            if file.left.is_some_and(|cause| cause.may_pass()) {
-                file.left = None;
-            }
-        }
+    fn has(&self, name: &str) -> bool {
+        self.files.iter().any(|file| file.name.as_str() == name)
     }
-}
-
-// A file that is left alone, and why, in words.
-fn left_file(alloc: Global, name: &str, cause: &str) -> Result<LeftFile, AllocError> {
-    Ok(LeftFile {
-        name: String::from_str(alloc, name)?,
-        cause: String::from_str(alloc, cause)?,
-    })
 }
 
 impl<'a, R: Files<File = File> + AllocGlobal + Clone + Drop> Folder for Others<'a, R> {
@@ -110,7 +85,6 @@ impl<'a, R: Files<File = File> + AllocGlobal + Clone + Drop> Folder for Others<'
         node: &mut Node<D, H>,
     ) -> Result<(), AllocError> {
         self.list(alloc)?;
-        self.try_again();
         follow_all(self.rt, alloc, self.folder.as_str(), &mut self.files, node)
     }
 
@@ -129,12 +103,12 @@ impl<'a, R: Files<File = File> + AllocGlobal + Clone + Drop> Folder for Others<'
 
     fn left(&self, alloc: Global) -> Result<Vec<LeftFile>, AllocError> {
         let mut left = Vec::new(alloc);
-        if !self.is_listed {
-            left.push(left_file(alloc, self.folder.as_str(), "it can't be listed")?)?;
-        }
         for file in &self.files {
-            if let Some(cause) = file.left {
-                left.push(left_file(alloc, file.name.as_str(), cause.sentence())?)?;
+            if let Some(cause) = &file.left {
+                left.push(LeftFile {
+                    name: String::from_str(alloc, file.name.as_str())?,
+                    cause: String::from_str(alloc, cause.as_str())?,
+                })?;
             }
         }
         Ok(left)
@@ -146,9 +120,9 @@ fn found(alloc: Global, digest: u64, name: String) -> Result<Followed, AllocErro
     let left = if is_feed_of(alloc, digest, name.as_str())? {
         None
     } else if is_feed(name.as_str()) {
-        Some(Cause::OtherProgram)
+        Some(String::from_str(alloc, "it is a feed of another program")?)
     } else {
-        Some(Cause::NoFeed)
+        Some(String::from_str(alloc, "it is no feed")?)
     };
     Ok(Followed {
         name,
@@ -201,7 +175,7 @@ where
         match take_next(rt, alloc, path.as_str(), file.size, node)? {
             Step::Ended => break,
             Step::Went(size) => file.size = file.size.saturating_add(size),
-            Step::Left(cause) => file.left = Some(cause),
+            Step::Left(cause) => file.left = Some(String::from_str(alloc, cause)?),
         }
     }
     Ok(())
@@ -224,23 +198,49 @@ where
 {
     let bytes = match records_behind(rt, path, size) {
         Ok(bytes) => bytes,
-        Err(error) => return Ok(Step::Left(Cause::of_read(&error)?)),
+        Err(error) => return unreadable(&error),
     };
     if bytes.is_empty() {
         return Ok(Step::Ended);
     }
     match take_in(alloc, &bytes, node) {
         Ok(taken) => Ok(after(taken, bytes.len() as u64)),
-        Err(fault) => Ok(Step::Left(Cause::of_node(fault)?)),
+        Err(fault) => left(fault),
+    }
+}
+
+// What comes of a file that can't be read.
+fn unreadable(error: &io::Error) -> Result<Step, AllocError> {
+    match error.kind() {
+        io::ErrorKind::OutOfMemory => Err(AllocError),
+        io::ErrorKind::NotFound => Ok(Step::Left("it is gone")),
+        io::ErrorKind::PermissionDenied => Ok(Step::Left("it may not be read")),
+        io::ErrorKind::IsADirectory => Ok(Step::Left("it is a folder")),
+        _ => Ok(Step::Left("the disk did not give its bytes")),
     }
 }
 
 // What comes after records that were taken in.
 fn after(taken: TakenIn, size: u64) -> Step {
     if taken.strange > 0 {
-        Step::Left(Cause::Strange)
+        Step::Left("a record has no operation of the program: it is damaged, or another program's")
     } else {
         Step::Went(size)
+    }
+}
+
+// What comes after records that were refused.
+fn left(fault: NodeFault) -> Result<Step, AllocError> {
+    match fault {
+        NodeFault::Forked => Ok(Step::Left("it has operations of this run's own origin")),
+        NodeFault::Feed(_) | NodeFault::Refused(Refusal::Memory) => Err(AllocError),
+        NodeFault::Refused(Refusal::Clash(_)) => Ok(Step::Left(
+            "an id stands for other facts there than elsewhere",
+        )),
+        NodeFault::Refused(Refusal::Full) => Ok(Step::Left(
+            "with it more than 1000000 facts would be told",
+        )),
+        NodeFault::Refused(_) => Ok(Step::Left("its operations are refused")),
     }
 }
 

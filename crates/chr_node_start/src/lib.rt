@@ -4,11 +4,9 @@
 //! had, 3 where the folder, the input or the output has failed and 4 for want of memory.
 #![tactic(auto)]
 
-mod cause;
 mod failure;
 mod folder;
 mod following;
-mod lines;
 mod program;
 mod session;
 mod words;

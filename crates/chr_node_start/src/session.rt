@@ -5,21 +5,20 @@ ghost use Rattle.chr_node_talk.specs.Talks.{IsReady};
 use crate::failure::Failure;
 use crate::folder::{Opened, open_folder};
 use crate::following::Others;
-use crate::lines::{Lines, answer, answer_last};
 use crate::words::{Words, read_words};
-use chr_base::program::Program;
 use chr_device::WordsFault;
+use chr_feeds::FeedFault;
 use chr_join::Accepted;
+use chr_json::MAX_LINE;
 use chr_node::{Holder, Node, Shower};
 use chr_node_boards::NodeBoard;
 use chr_node_files::{FeedFile, Run, create_feed_file, feed_name, names_in, path_in};
-use chr_node_prompt::{Prompt, help_text};
 use chr_node_talk::{Folder, NodeMachine, Talk};
 use sqlite_disk::Disk;
 use std::alloc::Global;
 use std::env;
 use std::fs::{self, File, Files};
-use std::io::{IsTerminal, Read, Write};
+use std::io::{Read, Write};
 use std::process::ExitCode;
 use std::random::RandomSource;
 use std::rt::Env;
@@ -52,7 +51,7 @@ where
         + Sync
         + Clone
         + Drop,
-    I: Read + IsTerminal,
+    I: Read,
     O: Write,
 {
     let words = match words(rt) {
@@ -99,8 +98,8 @@ fn run<R, I, O>(
     output: &mut O,
 ) -> Result<(), Failure>
 where
-    R: Eprint + Files<File = File> + AllocGlobal + RandomSource + Threads + Sync + Clone + Drop,
-    I: Read + IsTerminal,
+    R: Files<File = File> + AllocGlobal + RandomSource + Threads + Sync + Clone + Drop,
+    I: Read,
     O: Write,
 {
     let Opened { feeds, judged } = open_folder(rt, alloc, words)?;
@@ -112,13 +111,6 @@ where
     ))?;
     let name = feed_name(alloc, judged.digest, run)?;
     let path = path_in(alloc, feeds.as_str(), name.as_str())?;
-    let mut lines = Lines::Json;
-    if input.is_terminal() {
-        let _ = eprintln!(rt; "chrrep node: type a fact, ? to see all, help for more");
-    }
-    if words.is_typed || input.is_terminal() {
-        lines = typed_lines(alloc, judged.accepted.program())?;
-    }
     let node = begin(
         rt,
         alloc,
@@ -132,24 +124,11 @@ where
         talk: Talk::of(alloc, node, others),
         begun: Vec::new(alloc),
     };
-    let ended = answer_all(
-        alloc,
-        path.as_str(),
-        &mut machine,
-        &mut lines,
-        input,
-        output,
-    );
+    let ended = answer_all(alloc, path.as_str(), &mut machine, input, output);
     if machine.talk.node.last == machine.talk.before {
         let _ = fs::remove_file(rt, path.as_str());
     }
     ended
-}
-
-// Lines as people type them, who are told by `help` what may be typed.
-fn typed_lines(alloc: Global, program: &Program) -> Result<Lines, Failure> {
-    let help = help_text(alloc, program)?;
-    Ok(Lines::Typed(Prompt::new(alloc, help)))
 }
 
 // A node that was told nothing, over a new feed.
@@ -205,7 +184,6 @@ fn answer_all<D, H, F, I, O>(
     alloc: Global,
     path: &str,
     machine: &mut NodeMachine<D, H, F>,
-    lines: &mut Lines,
     input: &mut I,
     output: &mut O,
 ) -> Result<(), Failure>
@@ -227,12 +205,49 @@ where
         if read == 0 {
             break;
         }
-        answer(alloc, path, machine, lines, &chunk[..read], &mut held)?;
+        answer(alloc, path, machine, &chunk[..read], &mut held)?;
         send(alloc, output, held.as_bytes())?;
         held.clear();
     }
-    answer_last(alloc, path, machine, lines, &mut held)?;
+    machine
+        .answer_last(alloc, &mut held)
+        .map_err(|fault| not_kept(alloc, path, fault))?;
     send(alloc, output, held.as_bytes())
+}
+
+// Answers the lines that end in the bytes. Of a line that is longer than any only so much is kept as shows that it is.
+fn answer<D, H, F>(
+    alloc: Global,
+    path: &str,
+    machine: &mut NodeMachine<D, H, F>,
+    bytes: &[u8],
+    held: &mut String,
+) -> Result<(), Failure>
+where
+    D: Disk,
+    H: Shower,
+    F: Folder,
+    requires { IsReady D.seen D.may_leave D.is_usable H.operations H.program machine.old.talk.node }
+    ensures { OnOk result
+        (IsReady D.seen D.may_leave D.is_usable H.operations H.program machine.new.talk.node) }
+{
+    machine
+        .answer_batch(alloc, bytes, held)
+        .map_err(|fault| not_kept(alloc, path, fault))?;
+    machine.begun.truncate(MAX_LINE + 1);
+    Ok(())
+}
+
+fn not_kept(alloc: Global, path: &str, fault: FeedFault) -> Failure {
+    if fault == FeedFault::Memory {
+        return Failure::Memory;
+    }
+    match format!(in alloc;
+        "{path}: the disk has not kept what was told last, which has no answer"
+    ) {
+        Ok(sentence) => Failure::Device(sentence),
+        Err(_) => Failure::Memory,
+    }
 }
 
 fn send<O: Write>(alloc: Global, output: &mut O, bytes: &[u8]) -> Result<(), Failure> {

@@ -17,7 +17,6 @@ const MORE: &str =
   [\"changes\"]                    what came and went since it was asked last
   [\"status\"]                     the files of the folder, and how many facts there are
 
-At a terminal, or with --text, lines are as people type them: path(1,2,7), ?, ? path(1,_,_), help.
 Others may tell facts to the same folder at the same time, and feeds may be copied into DIR/feeds from anywhere.
 
 Example: chrrep node --data shop --program shop.chr    the first time
@@ -35,8 +34,6 @@ pub(crate) struct Words {
     pub(crate) program: Option<String>,
     /// Whether the verdict looks at sorted cases at once.
     pub(crate) wide: bool,
-    /// Whether lines are as people type them, also where the input is no terminal.
-    pub(crate) is_typed: bool,
     /// The origin of this run's operations, where one is named.
     pub(crate) origin: Option<u32>,
 }
@@ -60,12 +57,6 @@ fn node_command<'a>(alloc: Global) -> Result<Command<'a>, AllocError> {
         .long("wide")
         .action(ArgAction::SetTrue)
         .help("Decide by the columns that rules compare");
-    let text = Arg::new(alloc, "text")
-        .long("text")
-        .action(ArgAction::SetTrue)
-        .help(
-            "Take and answer lines as at a terminal, path(1,2,7) or ? path(1,_,_), and not as JSON",
-        );
     let origin = Arg::new(alloc, "origin")
         .long("origin")
         .value_name("N")
@@ -83,7 +74,6 @@ fn node_command<'a>(alloc: Global) -> Result<Command<'a>, AllocError> {
             false,
         ))?
         .arg(wide)?
-        .arg(text)?
         .arg(origin)
 }
 
@@ -104,20 +94,17 @@ pub(crate) fn read_words(alloc: Global, words: &[String]) -> Result<Words, Words
     let mut data = String::new(alloc);
     let mut program = None;
     let mut wide = false;
-    let mut is_typed = false;
     let mut origin = None;
     if let Some((_, options)) = matches.subcommand() {
         data.push_str(options.get_str("data").unwrap_or("."))?;
         program = owned(alloc, options.get_str("program"))?;
         wide = options.get_str("wide") == Some("true");
-        is_typed = options.get_str("text") == Some("true");
         origin = options.get_one("origin");
     }
     Ok(Words {
         data,
         program,
         wide,
-        is_typed,
         origin,
     })
 }

@@ -1,11 +1,11 @@
 -- What is answered to what is asked.
-use Rattle.std.specs.Prelude.{◌≡◌, ◌≢◌, ◌⊎◌, ⊤, ℕ, ◌+◌, ◌-◌, ◌^◌, ◌<◌, ◌≤◌, List, [], ◌∷◌, Option, Some, None}
-use Rattle.std.specs.Prelude.{Result, Ok, Err}
+use Rattle.std.specs.Prelude.{◌≡◌, ◌≢◌, ◌⊎◌, ⊤, ℕ, ◌+◌, ◌-◌, ◌^◌, ◌≤◌, List, [], ◌∷◌, Option, Some, None, Result, Ok}
+use Rattle.std.specs.Prelude.{Err}
 use Rattle.chr_base.specs.FinBag.{◌⊖◌}
 use Rattle.chr_base.specs.Programs.{declarations}
 use Rattle.chr_base.specs.Stores.{Store, size}
 use Rattle.chr_ops.specs.declared.id.OpId.{OpId}
-use Rattle.chr_ops.specs.Operations.{Operation, Operations, IsHeld, IsHeldOtherwise, IsNew, told_atoms}
+use Rattle.chr_ops.specs.Operations.{Operation, IsHeld, IsHeldOtherwise, IsNew, told_atoms}
 use Rattle.chr_node.specs.declared.fault.Refusal.{Refusal as NodeRefusal}
 use Rattle.chr_node.specs.declared.fault.Refusal.TheVariants as node
 use Rattle.chr_node.specs.Refusals.{NodeRefuses}
@@ -17,7 +17,6 @@ use Rattle.chr_node_lines.specs.declared.fault.Refusal.{Refusal}
 use Rattle.chr_node_lines.specs.declared.fault.Refusal.TheVariants as refusal
 use Rattle.chr_node_lines.specs.declared.reply.Reply.{Reply}
 use Rattle.chr_node_lines.specs.declared.reply.Reply.TheVariants as reply
-use Rattle.chr_node_talk.specs.declared.limits.TheConstants.{MAX_ACKNOWLEDGED}
 use Rattle.chr_node_talk.specs.Moments.{Run, Moment, IsSame, Tells, Shows, IsStoreOf}
 
 -- the number that the caller expects, counted from 1 in the run, is that of the id
@@ -39,15 +38,11 @@ line_refusal node.NotNext = refusal.NotNext
 line_refusal node.NoText = refusal.NoText
 line_refusal node.Memory = refusal.Memory
 
--- with the operation more atoms would be told than a run acknowledges
-abbrev pub IsFull : Operations → Operation → Type 0
-IsFull m o = MAX_ACKNOWLEDGED < told_atoms m + size o.1
-
 -- the operation is refused as the next one of the run
 abbrev pub IsRefusedNext : Run → Moment → Operation → Refusal → Type 0
 IsRefusedNext r old o e =
     ((d : NodeRefusal) × NodeRefuses r.program old.operations r.origin old.last o d × (e ≡ line_refusal d))
-    ⊎ (((e ≡ refusal.NotNext) × IsHeld old.operations o) ⊎ ((e ≡ refusal.Full) × IsFull old.operations o))
+    ⊎ ((e ≡ refusal.NotNext) × IsHeld old.operations o)
 
 -- the operation was not told before: other atoms are held under its id, or none
 abbrev pub IsRefusedAgain : Moment → Operation → Refusal → Type 0

@@ -1,15 +1,14 @@
 -- What a node's answers depend on.
-use Rattle.std.specs.Prelude.{◌≡◌, ℕ, ◌+◌, ◌-◌, ◌^◌, ◌≤◌, min}
+use Rattle.std.specs.Prelude.{◌≡◌, ℕ, ◌+◌, ◌-◌, ◌^◌, min}
 use Rattle.std.specs.FinMap as map
 use Rattle.chr_base.specs.declared.program.Program.{Program}
 use Rattle.chr_base.specs.Programs.{rules_of}
 use Rattle.chr_base.specs.Rewriting.{IsNormalForm}
 use Rattle.chr_base.specs.Rules.{Step}
-use Rattle.chr_base.specs.Stores.{Store, size}
+use Rattle.chr_base.specs.Stores.{Store}
 use Rattle.chr_ops.specs.declared.id.OpId.{OpId}
-use Rattle.chr_ops.specs.Operations.{Operation, Operations, told_atoms, told_store, IsNew}
+use Rattle.chr_ops.specs.Operations.{Operation, Operations, told_store, IsNew}
 use Rattle.chr_node.specs.Nodes.{AreHeldIn}
-use Rattle.chr_node_talk.specs.declared.limits.TheConstants.{MAX_ACKNOWLEDGED}
 
 -- what stays for a whole run
 pub record Run : Type 0 where
@@ -38,16 +37,11 @@ pub record Hears (old new : Moment) : Type 0 where
   pub last : new.last ≡ old.last
   pub shown : new.shown ≡ old.shown
 
--- with the operation no more atoms are told than a run acknowledges
-abbrev pub HasRoom : Operations → Operation → Type 0
-HasRoom m o = told_atoms m + size o.1 ≤ MAX_ACKNOWLEDGED
-
 -- the operation is told, as the next one of the run
 pub record Tells (r : Run) (o : Operation) (old new : Moment) : Type 0 where
   pub origin : o.0.origin ≡ r.origin
   pub number : o.0.number ≡ old.last + 1
   pub absent : IsNew old.operations o
-  pub room : HasRoom old.operations o
   pub operations : new.operations ≡ map.insert old.operations o.0 o.1
   pub last : new.last ≡ old.last + 1
   pub shown : new.shown ≡ old.shown

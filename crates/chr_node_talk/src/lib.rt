@@ -6,12 +6,10 @@
 #![tactic(auto)]
 
 mod folder;
-mod limits;
 mod machine;
 mod replies;
 mod talk;
 
 pub use folder::{Alone, Folder};
-pub use limits::{MAX_ACKNOWLEDGED, MAX_UNHEARD};
 pub use machine::NodeMachine;
 pub use talk::Talk;

@@ -1,19 +1,17 @@
 //! Talks: what each line is answered.
 ghost use Rattle.std.specs.Prelude.{◌≡◌, ◌++◌, ℕ, Option, Some, None, IfErr, IfOk, OnErr, OnOk, string_bytes};
-ghost use Rattle.std.specs.Bool.{OnFalse, OnTrue};
 ghost use Rattle.chr_base.specs.FinBag as bag;
 ghost use Rattle.chr_base.specs.Programs.{declarations};
 ghost use Rattle.chr_node_lines.specs.Asked.{request_view};
 ghost use Rattle.chr_node_lines.specs.declared.reply.Reply.{Reply as AnyReply};
 ghost use Rattle.chr_node_talk.specs.Answers.{AskedAnswers, ChangesAnswers, CountAnswers, FindAnswers, IsExpected};
-ghost use Rattle.chr_node_talk.specs.Answers.{IsForMemory, IsFull, IsRefusedAgain, IsRefusedNext, IsRetry, LastAnswers};
+ghost use Rattle.chr_node_talk.specs.Answers.{IsForMemory, IsRefusedAgain, IsRefusedNext, IsRetry, LastAnswers};
 ghost use Rattle.chr_node_talk.specs.Answers.{ShowAnswers, StatusAnswers, TellAnswers};
 ghost use Rattle.chr_node_talk.specs.Lines.{AnswersLine, reply_line};
-ghost use Rattle.chr_node_talk.specs.Moments.{HasRoom, Hears, IsSame, IsStoreOf, Moment, next_id};
+ghost use Rattle.chr_node_talk.specs.Moments.{Hears, IsSame, IsStoreOf, Moment, next_id};
 ghost use Rattle.chr_node_talk.specs.Talks.{moment_of, run_of, Stays};
 
 use crate::folder::Folder;
-use crate::limits::{MAX_ACKNOWLEDGED, MAX_UNHEARD};
 use crate::replies::{line_refusal, push_line};
 use chr_base::bag::Bag;
 use chr_node::{Holder, Node, Shower};
@@ -34,8 +32,6 @@ pub struct Talk<D: Disk, H: Holder, F> {
     pub before: u64,
     /// The store that the caller was told of when it asked last what came and went.
     pub shown: Bag,
-    /// How many atoms were told since the folder's other files were heard.
-    pub unheard: u64,
 }
 
 impl<D: Disk + Drop, H: Holder + Drop, F: Drop> Talk<D, H, F> {
@@ -52,21 +48,7 @@ impl<D: Disk + Drop, H: Holder + Drop, F: Drop> Talk<D, H, F> {
             folder,
             before,
             shown: Bag::new(alloc),
-            unheard: MAX_UNHEARD,
         }
-    }
-}
-
-/// How many atoms are told unheard once the run has told what is asked; none where it has to hear others first, as it
-/// has where the store is asked for.
-fn unheard_after(unheard: u64, request: &Request) -> Option<u64> {
-    match request {
-        Request::Last => Some(unheard),
-        Request::Tell(_, op) => {
-            let atoms = unheard.saturating_add(op.bag().len() as u64);
-            (atoms <= MAX_UNHEARD).then_some(atoms)
-        }
-        _ => None,
     }
 }
 
@@ -92,18 +74,6 @@ impl<D: Disk, H: Shower, F: Folder> Talk<D, H, F> {
         Ok(store)
     }
 
-    /// Whether the operation may be told, as to the atoms that are told with it.
-    fn has_room(&self, op: &Op) -> bool
-        ensures room { OnTrue result (HasRoom (H.operations self.now.node.holder) op.now) }
-        ensures full { OnFalse result (IsFull (H.operations self.now.node.holder) op.now) }
-    {
-        let told = self.node.holder.told();
-        if told > MAX_ACKNOWLEDGED {
-            return false;
-        }
-        op.bag().len() as u64 <= MAX_ACKNOWLEDGED - told
-    }
-
     /// Tells an operation.
     fn tell_next(&mut self, alloc: Global, op: Op) -> Result<Reply, Refusal>
         ensures answers { (n : Option ℕ) → IsExpected (run_of H.program self.old) n op.0 → IfOk result (TellAnswers
@@ -114,9 +84,6 @@ impl<D: Disk, H: Shower, F: Folder> Talk<D, H, F> {
         ensures stays { Stays D.seen H.operations H.program F.is_clean self.old self.new }
     {
         let id = op.id();
-        if !self.has_room(&op) {
-            return Err(Refusal::Full);
-        }
         match self.node.tell(alloc, op) {
             Ok(Added::New) => Ok(Reply::Told(id)),
             // No operation that is held has the next id.
@@ -273,21 +240,14 @@ impl<D: Disk, H: Shower, F: Folder> Talk<D, H, F> {
         }
     }
 
-    /// Hears what has come in the folder's other files, where the request is about the store, or the run would tell
-    /// more than [`MAX_UNHEARD`] atoms since it has heard.
+    /// Hears what has come in the folder's other files, where the request is about the store.
     fn hear_for(&mut self, alloc: Global, request: &Request) -> Result<(), AllocError>
         ensures hears { Hears (moment_of H.operations self.old) (moment_of H.operations self.new) }
         ensures stays { Stays D.seen H.operations H.program F.is_clean self.old self.new }
     {
-        match unheard_after(self.unheard, request) {
-            Some(unheard) => {
-                self.unheard = unheard;
-                Ok(())
-            }
-            None => {
-                self.unheard = unheard_after(0, request).unwrap_or(0);
-                self.folder.hear(alloc, &mut self.node)
-            }
+        match request {
+            Request::Tell(_, _) | Request::Last => Ok(()),
+            _ => self.folder.hear(alloc, &mut self.node),
         }
     }
 

@@ -133,7 +133,7 @@ impl Op {
         })
     }
 
-    /// This operation with a bag that sets share, so that a set that takes it in needs no memory for the bag.
+    /// The same operation with a bag that sets share, so that a set that takes it in needs no memory for the bag.
     ///
     /// # Errors
     /// Where memory is refused.

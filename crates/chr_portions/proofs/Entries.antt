@@ -12,7 +12,7 @@ use Rattle.chr_indexes.specs.declared.ranges.range.Range.{Range}
 use Rattle.chr_portions.specs.declared.record.Record.{Record}
 use Rattle.chr_portions.specs.declared.record.Sought.{Sought}
 use Rattle.chr_portions.specs.declared.skips.Skip.{Skip}
-use Rattle.chr_portions.specs.RankedPairs.{rank_of, AreDistinct, AreWithin}
+use Rattle.chr_portions.specs.RankedPairs.{rank_of, AreDistinct}
 use Rattle.chr_portions.specs.working.Skips.{no_record, record_at, IsSought}
 use Rattle.chr_portions.specs.working.Chains.{AreNext, AreHeads, AreAlike}
 use Rattle.chr_portions.specs.working.Placed.{place_at, IsPlaced, AreSame, AgreeBelow}
@@ -94,9 +94,6 @@ rank_within records places r i l =
     let t = i.there r l in
     let m = i.as_many in
     omega (arith, e, t, m)
-
-pub are_within : (records : List Record) (places : List ℕ) → IsPlaced records places → AreWithin places
-are_within records places i r l = rank_within records places r i l
 
 pub are_distinct : (records : List Record) (places : List ℕ) → IsPlaced records places → AreDistinct places
 are_distinct records places i l r e = elim (cases_lt l (length places)) as (λ _. l ≡ r) [

@@ -1,5 +1,5 @@
 -- Rows with a hash and two values each, and their ranks.
-use Rattle.std.specs.Prelude.{◌≡◌, ℕ, ◌<◌, List, get_or, length, Option}
+use Rattle.std.specs.Prelude.{◌≡◌, ℕ, List, get_or, Option}
 use Rattle.chr_indexes.specs.RangedRows.{Pair}
 
 -- The hash and both values of each row, or None where the row is dead; the rank of each row, of a dead one too; and for
@@ -16,7 +16,3 @@ rank_of ranks row = get_or ranks row row
 -- distinct rows have distinct ranks
 abbrev pub AreDistinct : List ℕ → Type 0
 AreDistinct ranks = (left right : ℕ) → rank_of ranks left ≡ rank_of ranks right → left ≡ right
-
--- the rank of each row is below the number of rows
-abbrev pub AreWithin : List ℕ → Type 0
-AreWithin ranks = (row : ℕ) → row < length ranks → rank_of ranks row < length ranks

@@ -2,7 +2,7 @@
 ghost use Rattle.std.specs.Prelude.{◌≡◌, ℕ, ◌+◌, ◌<◌, ◌≤◌, ◌^◌, ◌∷◌, ◌++◌, [], length, set, Some, None, OnOk};
 ghost use Rattle.std.specs.Prelude.{IfOk, IfSome, IfNone};
 ghost use Rattle.chr_indexes.specs.RangedRows.{IsCrossed};
-ghost use Rattle.chr_portions.specs.RankedPairs.{rank_of, AreDistinct, AreWithin};
+ghost use Rattle.chr_portions.specs.RankedPairs.{rank_of, AreDistinct};
 
 use crate::chains::{link, relink};
 use crate::cover::cover;
@@ -70,16 +70,16 @@ impl Index {
         self.places.len()
     }
 
-    /// There are as many ranks as rows, which are the numbers below their number, each once.
+    /// There are as many ranks as rows, and distinct rows have distinct ranks.
     pub fn are_ranked(&self)
         ensures as_many { length self.now.ranks ≡ length self.now.rows }
-        ensures within { AreWithin self.now.ranks }
         ensures distinct { AreDistinct self.now.ranks }
     {
         let _ = &self.places;
     }
 
-    /// Makes room for `more` rows more. The slots grow with the rows. No row changes and no rank, even where memory is
+    /// Makes room for `more` rows more. The slots grow with the rows. Where look-ups have gone far down chains, rows
+    /// come into another order, so that ranks may change, which nothing else does. No row changes, even where memory is
     /// refused.
     ///
     /// # Errors
@@ -88,12 +88,13 @@ impl Index {
     pub fn reserve(&mut self, more: usize) -> Result<(), AllocError>
         requires { length self.old.rows + more < 2 ^ 32 }
         ensures rows { self.new.rows ≡ self.old.rows }
-        ensures ranks { self.new.ranks ≡ self.old.ranks }
         ensures ok { OnOk result (length self.old.rows + more ≤ self.new.room) }
     {
         self.records.reserve(more)?;
         self.places.reserve(more)?;
-        self.grow(more)
+        self.grow(more)?;
+        self.cover_wanted();
+        Ok(())
     }
 
     /// Adds a row, for which there is room. It has the greatest rank.
@@ -110,26 +111,6 @@ impl Index {
         self.records.push_reserved(added);
         self.places.push_reserved(place as u32);
         link(&mut self.records, &mut self.heads, place);
-    }
-
-    /// Where look-ups have gone far down chains, rows come into another order, so that ranks change, which they do by
-    /// nothing else. Where memory is refused rows are as quick to find as before.
-    pub fn tidy(&mut self)
-        ensures rows { self.new.rows ≡ self.old.rows }
-        ensures room { self.new.room ≡ self.old.room }
-    {
-        let bare = self.records.len().saturating_sub(8 * self.skips.len());
-        if self.demand as usize <= bare + 256 {
-            return;
-        }
-        self.demand = 0;
-        let _ = cover(
-            &mut self.records,
-            &mut self.places,
-            &mut self.heads,
-            &mut self.skips,
-            &mut self.starts,
-        );
     }
 
     /// Forgets all rows. The room for them stays.
@@ -208,7 +189,6 @@ impl Index {
     fn grow(&mut self, more: usize) -> Result<(), AllocError>
         requires { length self.old.rows + more < 2 ^ 32 }
         ensures rows { self.new.rows ≡ self.old.rows }
-        ensures ranks { self.new.ranks ≡ self.old.ranks }
         ensures room { self.new.room ≡ self.old.room }
     {
         let slots = self.heads.len();
@@ -220,6 +200,26 @@ impl Index {
         self.heads.fill(0);
         relink(&mut self.records, &mut self.heads);
         Ok(())
+    }
+
+    /// Covers records where look-ups have met many in vain that have no skips yet. Where memory is refused they stay
+    /// as they are.
+    fn cover_wanted(&mut self)
+        ensures rows { self.new.rows ≡ self.old.rows }
+        ensures room { self.new.room ≡ self.old.room }
+    {
+        let bare = self.records.len().saturating_sub(8 * self.skips.len());
+        if self.demand as usize <= bare + 256 {
+            return;
+        }
+        self.demand = 0;
+        let _ = cover(
+            &mut self.records,
+            &mut self.places,
+            &mut self.heads,
+            &mut self.skips,
+            &mut self.starts,
+        );
     }
 
     /// The rank of a row.

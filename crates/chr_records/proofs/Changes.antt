@@ -18,13 +18,13 @@ left_same a b p is = sym (xor_back a p) ∙ ap (λ (x : ℕ). bit_xor x p) is �
 right_same : (p a b : ℕ) → bit_xor p a ≡ bit_xor p b → a ≡ b
 right_same p a b is = left_same a b p (xor_comm a p ∙ is ∙ xor_comm p b)
 
-pub even_step : (c : ℕ) → c % 2 ≡ 0 → shifted c ≡ c / 2
+even_step : (c : ℕ) → c % 2 ≡ 0 → shifted c ≡ c / 2
 even_step c is = grind (arith, nat_tests)
 
-pub odd_step : (c : ℕ) → c % 2 ≡ 1 → shifted c ≡ bit_xor (c / 2) 3988292384
+odd_step : (c : ℕ) → c % 2 ≡ 1 → shifted c ≡ bit_xor (c / 2) 3988292384
 odd_step c is = grind (arith, nat_tests)
 
-pub parity : (c : ℕ) → (c % 2 ≡ 0) ⊎ (c % 2 ≡ 1)
+parity : (c : ℕ) → (c % 2 ≡ 0) ⊎ (c % 2 ≡ 1)
 parity c = elim (cases_eq (c % 2) 0) [
   | inl is ↦ inl is
   | inr other ↦ inr (omega (arith, other))

@@ -1,4 +1,3 @@
 pub mod Scans
 pub mod Sealed
 pub mod Changes
-pub mod ByteSteps

@@ -1,18 +1,33 @@
 //! CRC-32, and the word of a text that tells it.
 ghost use Rattle.std.specs.Prelude.{◌≡◌, ◌<◌};
-ghost use Rattle.chr_records.specs.Checksums.{digit_of, with_byte, crc_of, checksum_of};
+ghost use Rattle.chr_records.specs.Checksums.{digit_of, shifted, twice, with_byte, crc_of, checksum_of};
 
-use crate::remainders::REMAINDERS;
+/// The polynomial of CRC-32, the bit of its lowest power first.
+const POLYNOMIAL: u32 = 0xedb8_8320;
 
 /// Eight digits and a space.
 pub(crate) const CHECKSUM_SIZE: usize = 9;
 
-#[tactic(auto, using(crate::proofs::ByteSteps::by_table))]
+fn shift(crc: u32) -> u32
+    ensures { result ≡ shifted crc }
+{
+    if crc % 2 == 0 {
+        crc / 2
+    } else {
+        crc / 2 ^ POLYNOMIAL
+    }
+}
+
+fn shift_by_four(crc: u32) -> u32
+    ensures { result ≡ twice (twice shifted) crc }
+{
+    shift(shift(shift(shift(crc))))
+}
+
 fn add_byte(crc: u32, byte: u8) -> u32
     ensures { result ≡ with_byte crc byte }
 {
-    let mixed = crc ^ u32::from(byte);
-    mixed / 256 ^ REMAINDERS[(mixed % 256) as usize]
+    shift_by_four(shift_by_four(crc ^ u32::from(byte)))
 }
 
 /// The CRC-32 of a message, as zlib has it.

@@ -7,7 +7,6 @@ mod damage;
 mod laws;
 mod messages;
 mod reading;
-mod remainders;
 mod writing;
 
 pub use checksum::crc_32;

@@ -1,8 +1,6 @@
 -- Tells that are read one after another, and rested.
 use Rattle.std.proofs.Common.{◌≡◌, ◌≤◌, ◌<◌, ◌+◌, ℕ, arith, length, List, [], ◌∷◌}
 use Rattle.std.proofs.Common.{◌++◌, All, ◌⊎◌, inl, inr, refl, sym, ap, ◌∙◌, subst}
-use Rattle.std.proofs.Common.{Bool, Global, Vec, false, rules, vec_len}
-use Rattle.std.specs.Prelude.{◌==◌}
 use Rattle.std.proofs.lemmas.List.Elements.{All-cons, All-nil}
 use Rattle.chr_base.specs.declared.program.Program.{Program}
 use Rattle.chr_base.specs.FinBag.{◌⊕◌}
@@ -130,7 +128,3 @@ gathers_more p text g h op to asks left ops weighed put carried is = record {
       (subst (λ os. ReachTogether p g.carried.part os h.pool.store) (sym ops)
       (reach_more p g.carried.part g.ops.items op g.pool.store h.pool.store put is.reached));
 }
-
--- a vector that is not empty has an element
-pub some_told : {X : Type 0} (v : Vec X Global) (b : Bool) → b ≡ false → b ≡ (vec_len v == 0) → 0 < length v.items
-some_told v b e f = search rules

@@ -20,7 +20,7 @@ use crate::between::rest_told;
 use crate::block::Block;
 use crate::carriage::Carriage;
 use crate::readers::{Asking, Done, Readers, Task, do_task};
-use chr_answers::{Ahead, Answering, Schedule, Service, answer_all, answer_lines};
+use chr_answers::{Ahead, Answering, Service, answer_all, answer_lines};
 use chr_crew::{Known, beside_crew};
 use chr_device::{RunFault, Watched, read_on};
 use chr_join::Accepted;
@@ -32,6 +32,32 @@ use std::marker::Brand;
 use std::mem::replace;
 use std::sync::{Arc, Wait};
 use std::thread::Threads;
+
+/// The bytes of the first block. Each later block has twice as many as the one before it, so that little is waited for
+/// at first.
+const FIRST_BLOCK: usize = 16_384;
+
+/// The most bytes of a block: what was read is to be in a cache still when it is answered.
+const MOST_BLOCK: usize = 524_288;
+
+/// The most bytes of a block where the threads that read blocks don't rest what these tell: what was told is to be in a
+/// cache when it is rested, too.
+const MOST_UNRESTED_BLOCK: usize = 262_144;
+
+/// How many blocks for each worker are read, or are to be read, before the first of them is answered, where the threads
+/// that read blocks don't rest what these tell.
+const BLOCKS_AHEAD: usize = 2;
+
+/// How many blocks for each worker are read, or are to be read, before the first of them is answered, where the threads
+/// that read blocks rest what these tell: with fewer such tasks the last one would be waited for.
+const RESTED_AHEAD: usize = 4;
+
+/// The most blocks that are read ahead, for any number of workers.
+const MOST_AHEAD: usize = 32;
+
+/// How many bytes wait for each worker when no more are read: what comes of a block takes several times its bytes, and
+/// a block of long lines has more of these than others.
+const MOST_WAITING: usize = 1_048_576;
 
 /// Reads on from the beginning of a line, in a room that holds nothing else then: more than `size` bytes, or all that
 /// there are. Answers whether these are all.
@@ -113,7 +139,6 @@ impl Blocks {
     {
         let mut begun = Vec::new(alloc);
         begun.extend_from_slice(first)?;
-        let size = service.scheduler().schedule().first_block;
         Ok(Blocks {
             at: Answering {
                 service,
@@ -123,7 +148,7 @@ impl Blocks {
             blocks: VecDeque::new(alloc),
             begun,
             room: Vec::new(alloc),
-            size,
+            size: FIRST_BLOCK,
             ended,
         })
     }
@@ -131,50 +156,43 @@ impl Blocks {
     /// The most blocks that wait. They are fewer where the threads that read blocks don't rest what these tell: then
     /// other blocks wait for the thread that answers.
     fn most(&self) -> usize {
-        let scheduler = self.at.service.scheduler();
-        let workers = scheduler.workers() as usize;
+        let workers = self.at.service.schedule().workers() as usize;
         if workers == 1 {
             return 1;
         }
-        let schedule = scheduler.schedule();
-        let ahead = if scheduler.rests_ahead() {
-            schedule.rested_ahead
+        let ahead = if self.at.service.schedule().rests_ahead() {
+            RESTED_AHEAD
         } else {
-            schedule.blocks_ahead
+            BLOCKS_AHEAD
         };
-        ahead
-            .saturating_mul(workers)
-            .min(schedule.most_ahead)
-            .max(1)
+        ahead.saturating_mul(workers).min(MOST_AHEAD)
     }
 
     /// What other threads do with lines before their turn.
     fn readers(&self) -> Readers {
-        let scheduler = self.at.service.scheduler();
+        let schedule = self.at.service.schedule();
         Readers {
-            read: scheduler.workers() > 1,
-            rest: scheduler.rests_ahead(),
+            read: schedule.workers() > 1,
+            rest: schedule.rests_ahead(),
         }
     }
 
     /// Whether the blocks that wait have enough bytes: then some are to be answered before more are read.
     fn is_full(&self) -> bool {
-        let scheduler = self.at.service.scheduler();
-        let most = scheduler.schedule().most_waiting_bytes.max(1);
+        let workers = self.at.service.schedule().workers() as usize;
         let mut waiting = 0usize;
         for block in &self.blocks {
             waiting = waiting.saturating_add(block.bytes.len());
         }
-        waiting >= most.saturating_mul(scheduler.workers() as usize)
+        waiting >= MOST_WAITING.saturating_mul(workers)
     }
 
     /// How many bytes the next block is to have.
     fn next_size(&self) -> usize {
-        let scheduler = self.at.service.scheduler();
-        let most = if scheduler.rests_ahead() {
-            scheduler.schedule().most_block
+        let most = if self.at.service.schedule().rests_ahead() {
+            MOST_BLOCK
         } else {
-            scheduler.schedule().most_unrested_block
+            MOST_UNRESTED_BLOCK
         };
         self.size.saturating_mul(2).min(most)
     }
@@ -271,10 +289,10 @@ impl Blocks {
         } = left;
         let mut at = answer_lines(rt, alloc, block.lines(), at, ahead)?;
         rest_told(rt, alloc, &mut at.service)?;
-        let scheduler = at.service.scheduler();
+        let schedule = at.service.schedule();
         asking
             .carriage
-            .note(scheduler.rests_ahead(), scheduler.stretch());
+            .note(schedule.rests_ahead(), schedule.stretch());
         let room = room_of(alloc, block);
         Ok(Blocks {
             at,
@@ -338,7 +356,6 @@ fn answer_asking<R: Threads + Wait + Sync, D: Read, K: Known<Done>>(
     rt: &R,
     alloc: Global,
     accepted: &Accepted,
-    schedule: &Schedule,
     carriage: &Carriage,
     tasks: Sender<Task<K>>,
     left: &Receiver<Task<K>>,
@@ -362,7 +379,6 @@ fn answer_asking<R: Threads + Wait + Sync, D: Read, K: Known<Done>>(
 {
     let mut asking = Asking {
         accepted,
-        schedule,
         carriage,
         asked: 0,
         tasks,
@@ -397,20 +413,17 @@ fn answer_beside<R: Threads + Wait + Sync, D: Read, K: Known<Done> + Send>(
     ensures device { IsErrOf result Device → has_failed reader.new ≡ true }
     ensures memory { IsErrOf result Memory → has_failed reader.new ≡ has_failed reader.old }
 {
-    let workers = service.scheduler().workers() as usize;
-    let schedule = *service.scheduler().schedule();
-    let most = schedule.most_ahead.max(1);
-    let carriage = Carriage::open(alloc, most)?;
-    let (tasks, left) = bounded(alloc, most)?;
+    let workers = service.schedule().workers() as usize;
+    let carriage = Carriage::open(alloc, MOST_AHEAD)?;
+    let (tasks, left) = bounded(alloc, MOST_AHEAD)?;
     if workers == 1 || ended {
         return answer_asking(
-            rt, alloc, accepted, &schedule, &carriage, tasks, &left, service, first, ended, reader,
-            text,
+            rt, alloc, accepted, &carriage, tasks, &left, service, first, ended, reader, text,
         );
     }
     let task = |task: Task<K>|
         requires { Agree K.holds (program_in accepted.now) }
-    { do_task(rt, alloc, accepted, &schedule, &carriage, task) };
+    { do_task(rt, alloc, accepted, &carriage, task) };
     let mut come = Some((service, text, tasks));
     let mut here = || -> Result<String, RunFault>
         requires ready { IfSome come (λ c. IsBetweenLines c.0) }
@@ -427,8 +440,8 @@ fn answer_beside<R: Threads + Wait + Sync, D: Read, K: Known<Done> + Send>(
         match come.take() {
             Some((service, text, tasks)) => {
                 answer_asking(
-                    rt, alloc, accepted, &schedule, &carriage, tasks, &left, service, first, false,
-                    reader, text,
+                    rt, alloc, accepted, &carriage, tasks, &left, service, first, false, reader,
+                    text,
                 )
             }
             None => Err(RunFault::Memory),

@@ -8,18 +8,29 @@ ghost use Rattle.chr_answers.specs.Requests.{AsksFirst};
 ghost use Rattle.chr_answers.specs.Gathered.{AreTells};
 ghost use Rattle.chr_report.specs.working.Gathered.{IsGathered};
 
-use chr_answers::{Carried, Heard, Request, Schedule, Tells, read_one};
+use crate::ahead::MOST_LINES;
+use chr_answers::{Carried, Heard, MOST_WAITING, Request, Tells, read_one};
 use chr_base::bag::Bag;
 use chr_join::Accepted;
 use chr_ops::Op;
 use chr_shards::Shards;
 use std::alloc::{AllocError, Global};
 
+/// How many atoms have to be told before it shows whether it pays to rest them.
+const TRIAL: u64 = 2048;
+
+/// It pays where at least one of this many atoms takes a step.
+const PAYING: u64 = 256;
+
+/// The most atoms that are carried from block to block: they are rested again each time.
+const MOST_CARRIED: u64 = 4096;
+
+/// Of the atoms that a block tells one of this many may be carried.
+const CARRYING: u64 = 4;
+
 /// Lines that tell one replica operations, while they are read.
 #[derive(Drop)]
 struct Gathering {
-    /// How long it is read and rested on.
-    schedule: Schedule,
     /// How many bytes of the text are left where the lines begin.
     left: usize,
     /// How many bytes of the text are left where the next line begins.
@@ -39,8 +50,8 @@ struct Gathering {
 }
 
 /// Whether the `staying` atoms that are left of `told` atoms are few enough to be carried on.
-fn may_go_on(schedule: &Schedule, told: u64, staying: u64) -> bool {
-    staying <= schedule.most_carried && staying <= told / schedule.carrying.max(1)
+fn may_go_on(told: u64, staying: u64) -> bool {
+    staying <= MOST_CARRIED && staying <= told / CARRYING
 }
 
 impl Gathering {
@@ -48,7 +59,6 @@ impl Gathering {
     fn open(
         alloc: Global,
         accepted: &Accepted,
-        schedule: &Schedule,
         left: usize,
         carried: Carried,
     ) -> Result<Gathering, AllocError>
@@ -59,7 +69,6 @@ impl Gathering {
         let mut pool = Shards::open(alloc, weighed, accepted.seed(), 1)?;
         pool.insert(carried.part.atoms())?;
         Ok(Gathering {
-            schedule: *schedule,
             left,
             more: left,
             replica: 0,
@@ -101,7 +110,7 @@ impl Gathering {
         ensures ops { self.new.ops ≡ self.old.ops }
         ensures more { self.new.more ≡ self.old.more }
     {
-        if self.pool.waiting() as u64 <= self.schedule.most_waiting {
+        if self.pool.waiting() as u64 <= MOST_WAITING {
             return Ok(());
         }
         self.rest()
@@ -124,9 +133,7 @@ impl Gathering {
 
     /// Whether it is in vain to rest more atoms: of many hardly any took a step, and none waits.
     fn is_in_vain(&self) -> bool {
-        self.told > self.schedule.trial
-            && self.pool.waiting() == 0
-            && self.steps < self.told / self.schedule.paying.max(1)
+        self.told > TRIAL && self.pool.waiting() == 0 && self.steps < self.told / PAYING
     }
 
     /// Reads the next line, if it tells the same replica an operation. Any other line is left to be read again.
@@ -164,7 +171,6 @@ impl Gathering {
         }
         gathering.rest()?;
         let Gathering {
-            schedule,
             left,
             more,
             replica,
@@ -175,7 +181,7 @@ impl Gathering {
             ..
         } = gathering;
         let rested = pool.bag(alloc)?;
-        let goes_on = may_go_on(&schedule, told, rested.len() as u64);
+        let goes_on = may_go_on(told, rested.len() as u64);
         Ok(Some(Tells {
             left,
             more,
@@ -193,14 +199,13 @@ impl Gathering {
 pub(crate) fn gather(
     alloc: Global,
     accepted: &Accepted,
-    schedule: &Schedule,
     text: &[u8],
     carried: Carried,
 ) -> Result<Option<Tells>, AllocError>
     ensures { IfOk result (λ found. IfSome found (AreTells (program_in accepted.now) text.now)) }
 {
-    let mut gathering = Gathering::open(alloc, accepted, schedule, text.len(), carried)?;
-    while gathering.more > 0 && gathering.ops.len() < schedule.most_lines {
+    let mut gathering = Gathering::open(alloc, accepted, text.len(), carried)?;
+    while gathering.more > 0 && gathering.ops.len() < MOST_LINES {
         if gathering.is_in_vain() || !gathering.take_line(alloc, accepted, text)? {
             break;
         }

@@ -23,7 +23,7 @@ mod verdict;
 mod wanted;
 mod wire;
 
-pub use chr_answers::{Refusal, Schedule, answers_are_one, answers_exist, lines_are_the_input};
+pub use chr_answers::{Refusal, answers_are_one, answers_exist, lines_are_the_input};
 pub use chr_device::{RunFault, Settings, Style, Verb, Watched, WordsFault, read_words};
 pub use chr_run::{Peer, Wire};
 pub use input::program_text;

@@ -8,13 +8,24 @@ ghost use Rattle.chr_report.specs.working.Readings.{Agree, IsRead};
 use crate::ahead::{first_replica, read_ahead};
 use crate::block::Block;
 use crate::carriage::Carriage;
-use chr_answers::{Ahead, Carried, Schedule};
+use chr_answers::{Ahead, Carried};
 use chr_crew::{Desk, Inbox, Known, open};
 use chr_join::Accepted;
 use crossbeam_channel::{Receiver, Sender};
 use std::alloc::{AllocError, Global};
 use std::collections::VecDeque;
 use std::sync::{Arc, Wait};
+
+/// The least bytes of a block that another thread reads: fewer are no work for it.
+const LEAST_READ: usize = 16_384;
+
+/// The most bytes of a block that another thread reads. A longer block has a long line, which is read to something many
+/// times as large: it is read in its turn, so that no two threads hold as much at once.
+const MOST_READ: usize = 655_360;
+
+/// The least bytes of a block whose tells are rested by the thread that reads them: of a shorter one too many atoms may
+/// be left over.
+const LEAST_RESTED: usize = 131_072;
 
 /// What other threads do before a line's turn.
 #[derive(Clone, Copy, Debug, PartialEq, Eq)]
@@ -58,13 +69,12 @@ fn has_lines_of(block: &Block, other: &Block) -> bool
 fn read_block(
     alloc: Global,
     accepted: &Accepted,
-    schedule: &Schedule,
     block: Arc<Block>,
     carried: Option<Carried>,
 ) -> Done
     ensures { IsRead (program_in accepted.now) result }
 {
-    let ahead = read_ahead(alloc, accepted, schedule, block.lines(), carried).ok();
+    let ahead = read_ahead(alloc, accepted, block.lines(), carried).ok();
     Done { block, ahead }
 }
 
@@ -86,7 +96,6 @@ pub(crate) fn do_task<K: Known<Done>, R: Wait>(
     rt: &R,
     alloc: Global,
     accepted: &Accepted,
-    schedule: &Schedule,
     carriage: &Carriage,
     task: Task<K>,
 )
@@ -104,7 +113,7 @@ pub(crate) fn do_task<K: Known<Done>, R: Wait>(
     } else {
         None
     };
-    let done = read_block(alloc, accepted, schedule, block, carried);
+    let done = read_block(alloc, accepted, block, carried);
     if let Some(ahead) = &done.ahead {
         if let Some(tells) = ahead.rested() {
             carriage.give(rt, alloc, number, tells);
@@ -119,8 +128,6 @@ pub(crate) fn do_task<K: Known<Done>, R: Wait>(
 pub(crate) struct Asking<'a, K: Known<Done>> {
     /// The program.
     pub(crate) accepted: &'a Accepted,
-    /// By what amounts blocks are read.
-    pub(crate) schedule: &'a Schedule,
     /// What is carried from block to block.
     pub(crate) carriage: &'a Carriage,
     /// How many blocks have come.
@@ -166,15 +173,9 @@ impl<'a, K: Known<Done>> Asking<'a, K> {
         ensures { self.new.accepted ≡ self.old.accepted }
     {
         let len = block.lines().len();
-        let schedule = self.schedule;
         self.asked = self.asked.wrapping_add(1);
-        let reading = if readers.read && len >= schedule.least_read && len <= schedule.most_read {
-            self.task(
-                rt,
-                alloc,
-                block,
-                readers.rest && len >= schedule.least_rested,
-            )
+        let reading = if readers.read && len >= LEAST_READ && len <= MOST_READ {
+            self.task(rt, alloc, block, readers.rest && len >= LEAST_RESTED)
         } else {
             None
         };
@@ -194,7 +195,7 @@ impl<'a, K: Known<Done>> Asking<'a, K> {
                 return Some(done);
             }
             match self.left.try_recv(rt) {
-                Ok(task) => do_task(rt, alloc, self.accepted, self.schedule, self.carriage, task),
+                Ok(task) => do_task(rt, alloc, self.accepted, self.carriage, task),
                 Err(_none) => return inbox.recv(rt),
             }
         }

@@ -33,10 +33,10 @@ use crate::judging::{Judged, judge};
 use crate::turning::{Asked, Turn, take_turn};
 use crate::verdict::accepted_line;
 use crate::wanted::Wanted;
-use chr_answers::{Ahead, Answering, Schedule, Service, Sharing, answer_all};
+use chr_answers::{Ahead, Answering, Service, Sharing, answer_all};
 use chr_device::{RunFault, Settings, Verb, Watched, read_on, read_past, write_whole};
 use chr_join::Accepted;
-use chr_run::{BlockSizes, answer_at_end};
+use chr_run::answer_at_end;
 use std::alloc::{AllocError, Global};
 use std::io::{Read, Write};
 use std::random::RandomSource;
@@ -285,14 +285,6 @@ fn run_by_workers<R: Read, W: Write>(
     Ok(output.status)
 }
 
-/// The sizes of the blocks in which an input is read by one worker.
-fn block_sizes(schedule: &Schedule) -> BlockSizes {
-    BlockSizes {
-        first: schedule.first_block,
-        most: schedule.most_block,
-    }
-}
-
 /// Checks, or runs by one worker.
 fn run_asked<X: RandomSource + Threads + Wait + Sync, R: Read, W: Write>(
     rt: &X,
@@ -322,8 +314,7 @@ fn run_asked<X: RandomSource + Threads + Wait + Sync, R: Read, W: Write>(
         ensures { IfOk result (Takes asked line) }
     { take_turn(rt, alloc, asked, line) };
     let mut coming = Coming::new(alloc, asked, take);
-    let sizes = block_sizes(&asked.sharing.schedule);
-    answer_at_end(rt, alloc, sizes, &mut coming, reader, writer)?;
+    answer_at_end(rt, alloc, &mut coming, reader, writer)?;
     Ok(coming.end())
 }
 
@@ -336,8 +327,8 @@ fn is_shared(asked: Asked) -> bool
 
 /// Reads all of the input, and then writes its output: the verdict on the program text, and by `Verb::Run` for an
 /// accepted program the answer line of each command. Commands are answered as they are read, and not held. What is
-/// written does not depend on the numbers of workers and of parts by which stores are rested, nor on the schedule. The
-/// replicas of a run are not freed: they are left to the end of the process.
+/// written does not depend on the numbers of workers and of parts by which stores are rested. The replicas of a run are
+/// not freed: they are left to the end of the process.
 ///
 /// # Errors
 ///
@@ -352,7 +343,6 @@ pub fn run<R: Read, W: Write>(
     reader: &mut Watched<R>,
     writer: &mut Watched<W>,
     settings: Settings,
-    schedule: &Schedule,
 ) -> Result<Status, RunFault>
     requires reads { has_failed reader.old ≡ false }
     requires writes { has_failed writer.old ≡ false }
@@ -370,7 +360,7 @@ pub fn run<R: Read, W: Write>(
     ensures unread { has_failed reader.new ≡ true → writer.new ≡ writer.old }
     ensures unanswered { IsErrOf result Memory → writer.new ≡ writer.old }
 {
-    let asked = Asked::from_settings(settings, schedule);
+    let asked = Asked::from_settings(settings);
     if is_shared(asked) {
         return run_by_workers(rt, alloc, reader, writer, asked.wanted, asked.sharing);
     }

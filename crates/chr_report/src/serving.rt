@@ -17,7 +17,6 @@ use crate::running::Status;
 use crate::sharing::sharing_by;
 use crate::turning::{Asked, Turn, take_turn};
 use crate::wanted::Wanted;
-use chr_answers::Schedule;
 use chr_device::{RunFault, Settings, Verb};
 use chr_run::{Wire, answer_promptly};
 use std::alloc::{AllocError, Global};
@@ -53,21 +52,14 @@ fn serve_asked<R: RandomSource + Threads + Wait + Sync, T: Wire>(
         ensures { IfOk result (Takes asked line) }
     { take_turn(rt, alloc, asked, line) };
     let mut coming = Coming::new(alloc, asked, take);
-    answer_promptly(
-        rt,
-        alloc,
-        asked.sharing.schedule.most_held,
-        &mut coming,
-        wire,
-    )?;
+    answer_promptly(rt, alloc, &mut coming, wire)?;
     Ok(coming.end())
 }
 
 /// Reads the program text, sends the verdict, and then sends the answer line of each command as soon as it has been
 /// read: it waits only where each whole line that was read is answered. A service ends with a program that is refused,
 /// or with the end of the input, where a last line without a line feed is answered too. What is sent is what
-/// [`crate::run`] writes for the same input, and does not depend on the numbers of workers and of parts, nor on the
-/// schedule.
+/// [`crate::run`] writes for the same input, and does not depend on the numbers of workers and of parts.
 ///
 /// # Errors
 ///
@@ -80,7 +72,6 @@ pub fn serve<T: Wire>(
     alloc: Global,
     wire: &mut T,
     settings: Settings,
-    schedule: &Schedule,
 ) -> Result<Status, RunFault>
     requires unbroken { T.is_broken wire.old ≡ false }
     requires limits { IsWithinLimits settings }
@@ -99,7 +90,7 @@ pub fn serve<T: Wire>(
     let asked = Asked {
         verb: Verb::Run,
         wanted: Wanted::from_settings(settings),
-        sharing: sharing_by(settings, schedule),
+        sharing: sharing_by(settings),
     };
     serve_asked(rt, alloc, wire, asked)
 }

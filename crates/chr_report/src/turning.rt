@@ -17,7 +17,7 @@ use crate::judging::{Judged, judge};
 use crate::running::opening;
 use crate::sharing::sharing_by;
 use crate::wanted::Wanted;
-use chr_answers::{Schedule, Service, Sharing, answer_line, answers_exist, without_return};
+use chr_answers::{Service, Sharing, answer_line, answers_exist, without_return};
 use chr_device::{Settings, Verb};
 use chr_join::Accepted;
 use std::alloc::{AllocError, Global};
@@ -38,7 +38,7 @@ pub(crate) struct Asked {
 
 impl Asked {
     /// What the settings ask for.
-    pub(crate) fn from_settings(settings: Settings, schedule: &Schedule) -> Asked
+    pub(crate) fn from_settings(settings: Settings) -> Asked
         requires { IsWithinLimits settings }
         ensures verb { result.verb ≡ settings.command }
         ensures wanted { result.wanted ≡ wanted_by settings }
@@ -46,7 +46,7 @@ impl Asked {
         Asked {
             verb: settings.command,
             wanted: Wanted::from_settings(settings),
-            sharing: sharing_by(settings, schedule),
+            sharing: sharing_by(settings),
         }
     }
 }

@@ -44,15 +44,6 @@ fn cut_at<C: Cut>(cut: &C, room: &mut Vec<u8>, begun: &mut Vec<u8>) -> Result<()
     Ok(())
 }
 
-/// The sizes of blocks. What is answered does not depend on them: no contract speaks of these.
-#[derive(Clone, Copy, Debug)]
-pub struct BlockSizes {
-    /// The least bytes of the first block, if that many come.
-    pub first: usize,
-    /// The least bytes of the longest one.
-    pub most: usize,
-}
-
 /// Reads ahead, block by block: each is twice as long as the one before it, so that little is waited for at first.
 #[derive(Drop)]
 pub struct Blocks<C> {
@@ -67,15 +58,15 @@ pub struct Blocks<C> {
 }
 
 impl<C> Blocks<C> {
-    /// Blocks of these sizes that are cut so. Nothing was read.
-    pub fn new(alloc: Global, cut: C, sizes: BlockSizes) -> Blocks<C>
+    /// Blocks that are cut so, of `size` to `most` bytes. Nothing was read.
+    pub fn new(alloc: Global, cut: C, size: usize, most: usize) -> Blocks<C>
         ensures { begun_of result ≡ [] }
     {
         Blocks {
             cut,
             begun: Vec::new(alloc),
-            size: sizes.first,
-            most: sizes.most,
+            size,
+            most,
         }
     }
 }

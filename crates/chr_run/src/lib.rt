@@ -16,7 +16,7 @@ mod source;
 
 pub use answering::answer;
 pub use batch::Batch;
-pub use blocks::{Anywhere, BlockSizes, Blocks, Cut};
+pub use blocks::{Anywhere, Blocks, Cut};
 pub use machine::Machine;
 pub use one_read::OneRead;
 pub use peer::{Peer, Wire};

@@ -6,7 +6,7 @@ ghost use Rattle.chr_device.specs.declared.fault.RunFault.TheVariants.{Device, M
 ghost use Rattle.chr_run.specs.Written.{AllAnswered, WritesAnswers, WritesBeginning};
 
 use crate::answering::answer;
-use crate::blocks::{Anywhere, BlockSizes, Blocks};
+use crate::blocks::{Anywhere, Blocks};
 use crate::machine::Machine;
 use crate::one_read::OneRead;
 use crate::peer::Wire;
@@ -16,7 +16,16 @@ use std::alloc::Global;
 use std::io::{Read, Write};
 use std::sync::Wait;
 
-/// Reads all of the input in blocks, and then writes what the machine answers to it.
+/// The bytes of the first block.
+const FIRST_BLOCK: usize = 16_384;
+
+/// Those of the longest one: what was read is to be in a cache still when it is answered.
+const MOST_BLOCK: usize = 524_288;
+
+/// Answers of this many bytes are sent before more is answered, though more bytes are there.
+const MOST_HELD: usize = 65_536;
+
+/// Reads all of the input, and then writes what the machine answers to it.
 ///
 /// # Errors
 ///
@@ -25,7 +34,6 @@ use std::sync::Wait;
 pub fn answer_at_end<M: Machine<Vec<u8>>, R: Read, W: Write>(
     rt: &impl Wait,
     alloc: Global,
-    sizes: BlockSizes,
     machine: &mut M,
     reader: &mut Watched<R>,
     writer: &mut Watched<W>,
@@ -48,7 +56,7 @@ pub fn answer_at_end<M: Machine<Vec<u8>>, R: Read, W: Write>(
 {
     let mut batch = Vec::new(alloc);
     let mut held = String::new(alloc);
-    let mut source = Blocks::new(alloc, Anywhere, sizes);
+    let mut source = Blocks::new(alloc, Anywhere, FIRST_BLOCK, MOST_BLOCK);
     let mut sink = HoldsAll;
     answer(
         rt,
@@ -63,9 +71,8 @@ pub fn answer_at_end<M: Machine<Vec<u8>>, R: Read, W: Write>(
 }
 
 /// Sends what the machine answers as soon as its bytes have been read: it waits only where all that was read is
-/// answered, and more may be. Answers of `most_held` bytes are sent before more is answered, though more bytes are
-/// there. It ends with the input, or where nothing that comes is answered any more. What it sends is what
-/// [`answer_at_end`] writes for the same input.
+/// answered, and more may be. It ends with the input, or where nothing that comes is answered any more. What it sends
+/// is what [`answer_at_end`] writes for the same input.
 ///
 /// # Errors
 ///
@@ -74,7 +81,6 @@ pub fn answer_at_end<M: Machine<Vec<u8>>, R: Read, W: Write>(
 pub fn answer_promptly<M: Machine<Vec<u8>>, T: Wire>(
     rt: &impl Wait,
     alloc: Global,
-    most_held: usize,
     machine: &mut M,
     wire: &mut T,
 ) -> Result<(), RunFault>
@@ -95,7 +101,7 @@ pub fn answer_promptly<M: Machine<Vec<u8>>, T: Wire>(
     let mut batch = Vec::new(alloc);
     let mut held = String::new(alloc);
     let mut source = OneRead;
-    let mut sink = SendsPromptly { most: most_held };
+    let mut sink = SendsPromptly { most: MOST_HELD };
     answer(
         rt,
         wire,

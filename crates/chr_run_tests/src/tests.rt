@@ -10,17 +10,6 @@ mod running;
 mod serving;
 mod wires;
 
-use chr_run::BlockSizes;
-
-/// Blocks that are longer than what is read here.
-const SIZES: BlockSizes = BlockSizes {
-    first: 64,
-    most: 64,
-};
-
-/// More bytes than all answers have.
-const MOST_HELD: usize = 64;
-
 /// Lines of 3, 0 and 2 bytes, and one of 4 that has not ended.
 const INPUT: &[u8] = b"abc\n\nde\nwxyz";
 

@@ -151,7 +151,7 @@ pub(crate) fn bag_of(alloc: Global, pools: &[Columns]) -> Result<Bag, AllocError
     Bag::of(atoms_of(alloc, pools)?)
 }
 
-/// The number of atoms that belong before the one in front of them. The atoms have one run in order more than that.
+/// The number of atoms that belong before the one in front of them. There is one more run of atoms in order.
 fn breaks_in(atoms: &[Atom]) -> usize {
     let mut breaks: usize = 0;
     for i in 1..atoms.len() {

@@ -25,17 +25,11 @@ use std::sync::{Mutex, Wait};
 /// and answers its receipt. Where memory for the call is refused, the act is handed back, and nothing has happened.
 #[derive(Drop)]
 pub struct Shared<J: Naming> {
-    // The tie of receipts to entries.
     pub(crate) table: TieTable,
-    // The book, with the view of the tie that has its journal.
     pub(crate) locked: Mutex<LockedBook<J>>,
-    // The number of seats.
     pub(crate) seats: u32,
-    // The tie is the opening's.
     ghost table_is: { table.shared.table_id ≡ J.opening.table },
-    // The tie's table has one word.
     ghost words: { table.shared.table_id.words ≡ 1 },
-    // There are as many seats as the opening says, at least one.
     ghost seats_are: { (seats ≡ J.opening.seats) × (0 < J.opening.seats) },
 }
 

@@ -19,14 +19,12 @@ ghost use Rattle.chr_start.specs.Statuses.{status_of, EndsByWords, ExplanationEn
 
 mod explained;
 mod limits;
-mod schedule;
 
 use chr_device::{Verb, refusal_text};
 use chr_report::{RunFault, Settings, Status, WordsFault, read_words, run, serve};
 pub use chr_report::{Streams, Watched};
 use explained::explain_input;
 pub use limits::Limits;
-use schedule::SCHEDULE;
 use std::alloc::{AllocError, Global};
 use std::env::Args;
 use std::fs::Files;
@@ -81,7 +79,7 @@ fn end_service<R: Read, W: Write>(
     ensures { RunEnds streams.old streams.new (R.remaining (reader_of streams.old)) (W.contents (writer_of streams.old))
         (W.contents (writer_of streams.new)) Serve (wanted_by settings) (exit_status result) }
 {
-    exit_code(serve(rt, alloc, streams, settings, &SCHEDULE))
+    exit_code(serve(rt, alloc, streams, settings))
 }
 
 /// Writes a verdict, and by a run the answers of all lines, and answers the exit status.
@@ -98,7 +96,7 @@ fn end_run<R: Read, W: Write>(
         (W.contents (writer_of streams.new)) settings.command (wanted_by settings) (exit_status result) }
 {
     let Streams { reader, writer } = streams;
-    exit_code(run(rt, alloc, reader, writer, settings, &SCHEDULE))
+    exit_code(run(rt, alloc, reader, writer, settings))
 }
 
 /// Does what these settings ask for.

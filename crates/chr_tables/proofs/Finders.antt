@@ -4,9 +4,8 @@ use Rattle.std.specs.Prelude.{Some, None, option_map}
 use Rattle.std.proofs.Math.ListN.{get_or-map}
 use Rattle.std.proofs.lemmas.Option.{same_Some}
 use Rattle.chr_indexes.specs.HashedRows.{HasHash, Listed}
-use Rattle.chr_indexes.specs.RangedRows.{ListedEntries, IsIn, IsWanted, IsCrossed}
+use Rattle.chr_indexes.specs.RangedRows.{ListedEntries, ListedPairs, IsIn, IsWanted, IsCrossed}
 use Rattle.chr_indexes.specs.declared.ranges.range.Range.{Range}
-use Rattle.chr_portions.specs.RankedPairs.{RankedPairs}
 use Rattle.chr_plans.specs.declared.key.Band.{Band}
 use Rattle.chr_plans.specs.declared.key.Span.{Span}
 use Rattle.chr_tables.specs.working.Finders.{Found, hashed, ranged, crossed, IsFinderRow}
@@ -75,7 +74,7 @@ module _ (column : ℕ) (index : ListedEntries) (h : ℕ) (span : Span) (range :
       )
 
 -- what an index by the hash and two values finds
-module _ (one two : ℕ) (index : RankedPairs) (h : ℕ) (span : Span) (first second : Range) (r : ℕ) where
+module _ (one two : ℕ) (index : ListedPairs) (h : ℕ) (span : Span) (first second : Range) (r : ℕ) where
   pub crossed_found : IsNarrow one span.first first → IsNarrow two span.second second
       → IsCrossed index.rows h first second r → IsFinderRow (Crossed one two index) h span r
   crossed_found narrow narrow_too w = (

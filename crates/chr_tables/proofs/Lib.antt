@@ -2,7 +2,6 @@ pub mod InColumns
 pub mod Finders
 pub mod Walks
 pub mod Lives
-pub mod Ranks
 pub mod Keys
 pub mod Choices
 pub mod Reading

@@ -8,8 +8,8 @@ use Rattle.std.proofs.lemmas.List.{get_or-map, map-set, get_or_past, get_or_appe
 use Rattle.chr_base.specs.declared.atom.Atom.{Atom}
 use Rattle.chr_tables.specs.declared.indexes.Keyed.{Keyed}
 use Rattle.chr_tables.specs.working.Indexes.{live, Way, no_way, way_of, atom_entry, entry_in, keyed_entries, ways_of}
-use Rattle.chr_tables.specs.working.Indexes.{key_columns, keyed_ranks, rooms_of, dead_in, AreIndexed, IsTable}
-use Rattle.chr_tables.specs.working.Finders.{Found, order_in, finder_rows, ranks_in, room_in}
+use Rattle.chr_tables.specs.working.Indexes.{key_columns, rooms_of, dead_in, AreIndexed, IsTable}
+use Rattle.chr_tables.specs.working.Finders.{Found, order_in, finder_rows, room_in}
 
 pub length_live : (as' : List Atom) (bs : List Bool) → length bs ≡ length as' → length (live as' bs) ≡ length as'
 length_live [] bs e = refl
@@ -62,10 +62,6 @@ live_kill (x ∷ as') (b ∷ bs) (suc r) e = ap (λ xs. cond b (Some x) None ∷
 pub entries_at : (ks : List Keyed) (i : ℕ) (d : Keyed) → i < length ks → get_or (keyed_entries ks) i []
     ≡ finder_rows (get_or ks i d).index
 entries_at ks i d l = get_or-map (λ (k : Keyed). finder_rows k.index) ks i d [] l
-
-pub ranks_at : (ks : List Keyed) (i : ℕ) (d : Keyed) → i < length ks → get_or (keyed_ranks ks) i []
-    ≡ ranks_in (get_or ks i d).index
-ranks_at ks i d l = get_or-map (λ (k : Keyed). ranks_in k.index) ks i d [] l
 
 pub way_at : (ks : List Keyed) (i : ℕ) (d : Keyed) → i < length ks → get_or (ways_of ks) i no_way
     ≡ way_of (get_or ks i d)

@@ -5,19 +5,16 @@ use Rattle.chr_plans.specs.declared.key.Band.{Band}
 use Rattle.chr_plans.specs.declared.key.Span.{Span}
 use Rattle.chr_plans.specs.Keys.{IsInBand}
 use Rattle.chr_plans.specs.Rows.{Tables, Columns, Ranks}
-use Rattle.chr_portions.specs.RankedPairs.{rank_of}
 
--- the atom of each row, or None where the row is dead; of each index its columns, the columns of its order, and the
--- ranks of rows, of dead ones, too
+-- the atom of each row, or None where the row is dead; of each index its columns, and the columns of its order
 pub record Contents : Type 0 where
   pub rows : List (Option Atom)
   pub keys : List (List ℕ)
   pub orders : List (List ℕ)
-  pub ranks : List (List ℕ)
 
 -- what is read past the last table
 abbrev pub no_table : Contents
-no_table = record { rows = []; keys = []; orders = []; ranks = [] }
+no_table = record { rows = []; keys = []; orders = [] }
 
 -- the atom of a row of a table, where it lives
 abbrev pub rows_of : List Contents → Tables
@@ -27,13 +24,9 @@ rows_of tables table row = get_or (get_or tables table no_table).rows row None
 abbrev pub index_columns : List Contents → Columns
 index_columns tables table index = slice_get (get_or tables table no_table).keys index
 
--- the rank of a row by an index of a table
-abbrev pub rank_by : Contents → ℕ → ℕ → ℕ
-rank_by t index row = rank_of (get_or t.ranks index []) row
-
--- the ranks of rows
+-- the ranks of rows: each index goes from the newest row down, so the rank of a row is its number
 abbrev pub ranks_of : List Contents → Ranks
-ranks_of tables table index row = rank_by (get_or tables table no_table) index row
+ranks_of tables table index row = row
 
 -- the row lives, and this is its atom's argument in a column
 abbrev pub HasArgument : ℕ → ℤ → Option Atom → Type 0

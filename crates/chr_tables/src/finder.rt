@@ -3,8 +3,7 @@ ghost use Rattle.std.specs.Prelude.{◌≡◌, ℕ, ℤ, ◌+◌, ◌<◌, ◌�
 ghost use Rattle.std.specs.Prelude.{IfSome, IfNone};
 ghost use Rattle.chr_plans.specs.Keys.{argument, key_of, columns_by};
 ghost use Rattle.chr_indexes.specs.RangedRows.{IsIn};
-ghost use Rattle.chr_portions.specs.RankedPairs.{rank_of, AreDistinct, AreWithin};
-ghost use Rattle.chr_tables.specs.working.Finders.{order_in, finder_rows, ranks_in, room_in, IsFinderRow};
+ghost use Rattle.chr_tables.specs.working.Finders.{order_in, finder_rows, room_in, IsFinderRow};
 
 use chr_base::atom::Atom;
 use chr_indexes::ranges::Range;
@@ -36,7 +35,7 @@ pub(crate) enum Finder {
     Crossed {
         first: usize,
         second: usize,
-        index: chr_portions::Index,
+        index: chr_indexes::ranges::Crossing,
     },
 }
 
@@ -67,7 +66,7 @@ impl Finder {
             Order::ByBoth(first, second) => Ok(Finder::Crossed {
                 first,
                 second,
-                index: chr_portions::Index::new(alloc)?,
+                index: chr_indexes::ranges::Crossing::new(alloc)?,
             }),
         }
     }
@@ -77,7 +76,6 @@ impl Finder {
         requires { length (finder_rows self.old) + 1 < 2 ^ 32 }
         ensures order { order_in self.new ≡ order_in self.old }
         ensures rows { finder_rows self.new ≡ finder_rows self.old }
-        ensures ranks { ranks_in self.new ≡ ranks_in self.old }
         ensures ok { OnOk result (length (finder_rows self.old) + 1 ≤ room_in self.new) }
     {
         match self {
@@ -87,7 +85,7 @@ impl Finder {
         }
     }
 
-    /// Adds a row. Ranks may change.
+    /// Adds a row, the newest.
     pub(crate) fn push(&mut self, hash: u32, atom: &Atom)
         requires room { length (finder_rows self.old) < room_in self.old }
         requires few { length (finder_rows self.old) + 1 < 2 ^ 32 }
@@ -103,23 +101,7 @@ impl Finder {
                 first,
                 second,
                 index,
-            } => {
-                index.push(hash, argument(atom, *first), argument(atom, *second));
-                index.tidy();
-            }
-        }
-    }
-
-    /// Ranks of rows are below their number, and distinct rows have distinct ranks.
-    pub(crate) fn are_ranked(&self)
-        ensures few { length (ranks_in self.now) ≤ length (finder_rows self.now) }
-        ensures within { AreWithin (ranks_in self.now) }
-        ensures distinct { AreDistinct (ranks_in self.now) }
-    {
-        match self {
-            Finder::Chained(_) => {}
-            Finder::Ranged { .. } => {}
-            Finder::Crossed { index, .. } => index.are_ranked(),
+            } => index.push(hash, argument(atom, *first), argument(atom, *second)),
         }
     }
 
@@ -136,12 +118,11 @@ impl Finder {
         }
     }
 
-    /// A row dies. It keeps its rank.
+    /// A row dies.
     pub(crate) fn kill(&mut self, row: u32)
         requires { row < length (finder_rows self.old) }
         ensures order { order_in self.new ≡ order_in self.old }
         ensures rows { finder_rows self.new ≡ set (finder_rows self.old) row None }
-        ensures ranks { ranks_in self.new ≡ ranks_in self.old }
         ensures room { room_in self.new ≡ room_in self.old }
     {
         match self {
@@ -151,19 +132,16 @@ impl Finder {
         }
     }
 
-    /// The live row of the greatest rank with this hash that is not known to lie outside the span.
+    /// The newest live row with this hash that is not known to lie outside the span.
     pub(crate) fn first(&mut self, hash: u32, span: &Span) -> Option<u32>
         ensures same { self.new ≡ self.old }
         ensures met { IfSome result (λ row. IsFinderRow self.old hash span.now row) }
-        ensures greatest { IfSome result (λ row. (other : ℕ) → IsFinderRow self.old hash span.now other
-            → rank_of (ranks_in self.old) other ≤ rank_of (ranks_in self.old) row) }
+        ensures newest { IfSome result (λ row. (other : ℕ) → IsFinderRow self.old hash span.now other → other ≤ row) }
         ensures none { IfNone result ((other : ℕ) → ¬ (IsFinderRow self.old hash span.now other)) }
     {
         match self {
             Finder::Chained(index) => index.first(hash),
-            Finder::Ranged { column, index } => {
-                index.first(hash, &range_for(*column, span.first))
-            },
+            Finder::Ranged { column, index } => index.first(hash, &range_for(*column, span.first)),
             Finder::Crossed {
                 first,
                 second,
@@ -175,18 +153,14 @@ impl Finder {
         }
     }
 
-    /// Like [`Finder::first`], but of the rows of a lower rank than `row`.
+    /// Like [`Finder::first`], but below `row`.
     pub(crate) fn next(&mut self, hash: u32, span: &Span, row: u32) -> Option<u32>
         ensures same { self.new ≡ self.old }
-        ensures below { IfSome result (λ next. rank_of (ranks_in self.old) next < rank_of (ranks_in self.old) row) }
+        ensures below { IfSome result (λ next. next < row) }
         ensures met { IfSome result (λ next. IsFinderRow self.old hash span.now next) }
-        ensures greatest { IfSome result (λ next. (other : ℕ)
-            → rank_of (ranks_in self.old) other < rank_of (ranks_in self.old) row
-            → IsFinderRow self.old hash span.now other
-            → rank_of (ranks_in self.old) other ≤ rank_of (ranks_in self.old) next) }
-        ensures none { IfNone result ((other : ℕ)
-            → rank_of (ranks_in self.old) other < rank_of (ranks_in self.old) row
-            → ¬ (IsFinderRow self.old hash span.now other)) }
+        ensures newest { IfSome result (λ next. (other : ℕ) → other < row
+            → IsFinderRow self.old hash span.now other → other ≤ next) }
+        ensures none { IfNone result ((other : ℕ) → other < row → ¬ (IsFinderRow self.old hash span.now other)) }
     {
         match self {
             Finder::Chained(index) => index.next(hash, row),
@@ -204,19 +178,14 @@ impl Finder {
         }
     }
 
-    /// Like [`Finder::next`], but the row itself counts, too. It may be dead, or past the last.
+    /// Like [`Finder::first`], but at `row` or below it. The row may be dead, or past the last.
     pub(crate) fn at_or_below(&mut self, hash: u32, span: &Span, row: u32) -> Option<u32>
         ensures same { self.new ≡ self.old }
-        ensures at_or_below { IfSome result (λ next.
-            rank_of (ranks_in self.old) next ≤ rank_of (ranks_in self.old) row) }
+        ensures at_or_below { IfSome result (λ next. next ≤ row) }
         ensures met { IfSome result (λ next. IsFinderRow self.old hash span.now next) }
-        ensures greatest { IfSome result (λ next. (other : ℕ)
-            → rank_of (ranks_in self.old) other ≤ rank_of (ranks_in self.old) row
-            → IsFinderRow self.old hash span.now other
-            → rank_of (ranks_in self.old) other ≤ rank_of (ranks_in self.old) next) }
-        ensures none { IfNone result ((other : ℕ)
-            → rank_of (ranks_in self.old) other ≤ rank_of (ranks_in self.old) row
-            → ¬ (IsFinderRow self.old hash span.now other)) }
+        ensures newest { IfSome result (λ next. (other : ℕ) → other ≤ row
+            → IsFinderRow self.old hash span.now other → other ≤ next) }
+        ensures none { IfNone result ((other : ℕ) → other ≤ row → ¬ (IsFinderRow self.old hash span.now other)) }
     {
         match self {
             Finder::Chained(index) => index.at_or_below(hash, row),

@@ -3,8 +3,7 @@ ghost use Rattle.std.specs.Prelude.{◌≡◌, ℕ, ◌+◌, ◌<◌, ◌≤◌,
 ghost use Rattle.std.specs.Prelude.{OnOk};
 ghost use Rattle.chr_plans.specs.Keys.{key_of};
 ghost use Rattle.chr_tables.specs.Hashes.{key_hash};
-ghost use Rattle.chr_tables.specs.working.Indexes.{keyed_entries, keyed_ranks, atom_entry, ways_of, rooms_of};
-ghost use Rattle.chr_tables.specs.working.Indexes.{no_way, AreIndexed};
+ghost use Rattle.chr_tables.specs.working.Indexes.{keyed_entries, atom_entry, ways_of, rooms_of, no_way, AreIndexed};
 
 use crate::cells::Cells;
 use crate::finder::{Finder, argument};
@@ -45,7 +44,6 @@ fn hash_of(keyed: &Keyed, atom: &Atom) -> u32
 pub(crate) fn kill_in(indexes: &mut [Keyed], row: u32)
     requires { (j : ℕ) → j < length indexes.old → row < length (get_or (keyed_entries indexes.old) j []) }
     ensures ways { ways_of indexes.new ≡ ways_of indexes.old }
-    ensures ranks { keyed_ranks indexes.new ≡ keyed_ranks indexes.old }
     ensures rows { (j : ℕ) →
         get_or (keyed_entries indexes.new) j [] ≡ set (get_or (keyed_entries indexes.old) j []) row None }
 {
@@ -59,7 +57,6 @@ pub(crate) fn reserve_in(indexes: &mut [Keyed]) -> Result<(), AllocError>
     requires { (j : ℕ) → j < length indexes.old → length (get_or (keyed_entries indexes.old) j []) + 1 < 2 ^ 32 }
     ensures ways { ways_of indexes.new ≡ ways_of indexes.old }
     ensures rows { keyed_entries indexes.new ≡ keyed_entries indexes.old }
-    ensures ranks { keyed_ranks indexes.new ≡ keyed_ranks indexes.old }
     ensures ok { OnOk result ((j : ℕ) → j < length indexes.old →
         length (get_or (keyed_entries indexes.old) j []) < get_or (rooms_of indexes.new) j 0) }
 {

@@ -6,7 +6,7 @@ ghost use Rattle.std.specs.Bool.{OnTrue, OnFalse};
 ghost use Rattle.chr_base.specs.declared.limits.TheConstants.{MAX_ARITY};
 ghost use Rattle.chr_plans.specs.Rows.{HasKey, LiesIn};
 ghost use Rattle.chr_plans.specs.Keys.{columns_by};
-ghost use Rattle.chr_tables.specs.Contents.{HasArgument, LiesBy, rank_by};
+ghost use Rattle.chr_tables.specs.Contents.{HasArgument, LiesBy};
 ghost use Rattle.chr_tables.specs.working.Indexes.{chosen, dead_in};
 
 use crate::cells::Cells;
@@ -49,8 +49,7 @@ impl Drop for Table {
 
 impl Model for Table {
     ghost use Rattle.chr_tables.specs.Contents.{Contents};
-    ghost use Rattle.chr_tables.specs.working.Indexes.{contents_code, key_columns, orders_of, keyed_ranks, live};
-    ghost use Rattle.chr_tables.specs.working.Indexes.{IsTable};
+    ghost use Rattle.chr_tables.specs.working.Indexes.{contents_code, key_columns, orders_of, live, IsTable};
 
     ghost Value = { Contents };
 
@@ -60,7 +59,6 @@ impl Model for Table {
       rows = live t.atoms t.alive.items;
       keys = key_columns t.indexes.items;
       orders = orders_of t.indexes.items;
-      ranks = keyed_ranks t.indexes.items;
     } };
 
     ghost invariant = { λ t. IsTable t.atoms t.alive.items t.dead t.indexes.items };
@@ -75,8 +73,9 @@ fn row_of(found: Option<u32>) -> Option<usize>
 
 /// The number of a row for an index; past all rows that there can be, the greatest.
 fn number_of(row: usize) -> u32
-    ensures same { row + 1 < 2 ^ 32 → result ≡ row }
-    ensures greatest { 2 ^ 32 ≤ row + 1 → result + 1 ≡ 2 ^ 32 }
+    ensures low { result ≤ row }
+    ensures same { (other : ℕ) → other ≤ row → other + 1 < 2 ^ 32 → other ≤ result }
+    ensures below { (other : ℕ) → other < row → other + 1 < 2 ^ 32 → other < result }
 {
     row.min(MAX_ROWS) as u32
 }
@@ -110,7 +109,7 @@ fn keep_live(atoms: &mut Cells, alive: &[bool])
 impl Table {
     /// The table of no rows and no indexes.
     pub fn new(alloc: Global) -> Table
-        ensures { result ≡ record { rows = []; keys = []; orders = []; ranks = [] } }
+        ensures { result ≡ record { rows = []; keys = []; orders = [] } }
     {
         Table {
             atoms: Cells::new(alloc),
@@ -155,19 +154,18 @@ impl Table {
         Ok(())
     }
 
-    /// The row of the greatest rank that a look-up of this key and span by an index meets. It meets each live row that
-    /// has the key and lies in the span, and may meet other live rows, whose keys have the same hash; each of them lies
-    /// in those bands of the span whose columns are those of the index's order.
+    /// The newest row that a look-up of this key and span by an index meets. It meets each live row that has the key
+    /// and lies in the span, and may meet other live rows, whose keys have the same hash; each of them lies in those
+    /// bands of the span whose columns are those of the index's order.
     pub fn first(&mut self, index: usize, key: &[i64], span: &Span) -> Option<usize>
         requires { index < length self.old.keys }
         ensures same { self.new ≡ self.old }
         ensures lives { IfSome result (λ row. IsTrue (is_some (get_or self.old.rows row None))) }
         ensures within { IfSome result (λ row.
             LiesBy (get_or self.old.orders index []) span.now (get_or self.old.rows row None)) }
-        ensures greatest { IfSome result (λ row. (other : ℕ) →
+        ensures newest { IfSome result (λ row. (other : ℕ) →
             HasKey (slice_get self.old.keys index) key.now (get_or self.old.rows other None) →
-            LiesIn span.now (get_or self.old.rows other None) →
-            rank_by self.old index other ≤ rank_by self.old index row) }
+            LiesIn span.now (get_or self.old.rows other None) → other ≤ row) }
         ensures none { IfNone result ((other : ℕ) →
             HasKey (slice_get self.old.keys index) key.now (get_or self.old.rows other None) →
             ¬ (LiesIn span.now (get_or self.old.rows other None))) }
@@ -177,32 +175,30 @@ impl Table {
         row_of(keyed.index.first(hash, span))
     }
 
-    /// Like [`Table::first`], but of the rows of a lower rank than `row`. The search begins at the row where that has
-    /// the hash of the key, and else at the greatest rank.
+    /// Like [`Table::first`], but below `row`. The search begins at the row where that has the hash of the key, and
+    /// else at the newest.
     pub fn next(&mut self, index: usize, key: &[i64], span: &Span, row: usize) -> Option<usize>
         requires { index < length self.old.keys }
         ensures same { self.new ≡ self.old }
-        ensures own_ranks { (n m : ℕ) → rank_by self.old index n ≡ rank_by self.old index m → n ≡ m }
-        ensures below { IfSome result (λ next. rank_by self.old index next < rank_by self.old index row) }
+        ensures below { IfSome result (λ next. next < row) }
         ensures lives { IfSome result (λ next. IsTrue (is_some (get_or self.old.rows next None))) }
         ensures within { IfSome result (λ next.
             LiesBy (get_or self.old.orders index []) span.now (get_or self.old.rows next None)) }
-        ensures greatest { IfSome result (λ next. (other : ℕ) → rank_by self.old index other < rank_by self.old index
-            row → HasKey (slice_get self.old.keys index) key.now (get_or self.old.rows other None) →
-            LiesIn span.now (get_or self.old.rows other None) →
-            rank_by self.old index other ≤ rank_by self.old index next) }
-        ensures none { IfNone result ((other : ℕ) → rank_by self.old index other < rank_by self.old index row →
+        ensures newest { IfSome result (λ next. (other : ℕ) → other < row →
+            HasKey (slice_get self.old.keys index) key.now (get_or self.old.rows other None) →
+            LiesIn span.now (get_or self.old.rows other None) → other ≤ next) }
+        ensures none { IfNone result ((other : ℕ) → other < row →
             HasKey (slice_get self.old.keys index) key.now (get_or self.old.rows other None) →
             ¬ (LiesIn span.now (get_or self.old.rows other None))) }
     {
         let keyed = &mut self.indexes[index];
         let hash = key_hash(keyed.seed, key);
         let row = number_of(row);
-        keyed.index.are_ranked();
         row_of(keyed.index.next(hash, span, row))
     }
 
-    /// Like [`Table::next`], but the row itself counts, too. It may be dead, or past the last.
+    /// Like [`Table::first`], but at `row` or below it. The row may be dead, or past the last. The search begins at the
+    /// row where that has the hash of the key, and else at the newest.
     pub fn at_or_below(
         &mut self,
         index: usize,
@@ -212,22 +208,20 @@ impl Table {
     ) -> Option<usize>
         requires { index < length self.old.keys }
         ensures same { self.new ≡ self.old }
-        ensures at_or_below { IfSome result (λ next. rank_by self.old index next ≤ rank_by self.old index row) }
+        ensures at_or_below { IfSome result (λ next. next ≤ row) }
         ensures lives { IfSome result (λ next. IsTrue (is_some (get_or self.old.rows next None))) }
         ensures within { IfSome result (λ next.
             LiesBy (get_or self.old.orders index []) span.now (get_or self.old.rows next None)) }
-        ensures greatest { IfSome result (λ next. (other : ℕ) → rank_by self.old index other ≤ rank_by self.old index
-            row → HasKey (slice_get self.old.keys index) key.now (get_or self.old.rows other None) →
-            LiesIn span.now (get_or self.old.rows other None) →
-            rank_by self.old index other ≤ rank_by self.old index next) }
-        ensures none { IfNone result ((other : ℕ) → rank_by self.old index other ≤ rank_by self.old index row →
+        ensures newest { IfSome result (λ next. (other : ℕ) → other ≤ row →
+            HasKey (slice_get self.old.keys index) key.now (get_or self.old.rows other None) →
+            LiesIn span.now (get_or self.old.rows other None) → other ≤ next) }
+        ensures none { IfNone result ((other : ℕ) → other ≤ row →
             HasKey (slice_get self.old.keys index) key.now (get_or self.old.rows other None) →
             ¬ (LiesIn span.now (get_or self.old.rows other None))) }
     {
         let keyed = &mut self.indexes[index];
         let hash = key_hash(keyed.seed, key);
         let row = number_of(row);
-        keyed.index.are_ranked();
         row_of(keyed.index.at_or_below(hash, span, row))
     }
 
@@ -299,13 +293,12 @@ impl Table {
         None
     }
 
-    /// A row dies. It keeps its number and its ranks.
+    /// A row dies. It keeps its number.
     pub fn kill(&mut self, row: usize)
         requires { row < length self.old.rows }
         ensures rows { self.new.rows ≡ set self.old.rows row None }
         ensures keys { self.new.keys ≡ self.old.keys }
         ensures orders { self.new.orders ≡ self.old.orders }
-        ensures ranks { self.new.ranks ≡ self.old.ranks }
     {
         self.dead += mark_dead(&mut self.alive, row);
         kill_in(&mut self.indexes, row as u32);
@@ -332,13 +325,12 @@ impl Table {
         enter_all(&self.atoms, &mut self.indexes);
     }
 
-    /// Adds a row. Ranks may change. Nothing does where memory is refused, or where the table has `MAX_ROWS` rows.
+    /// Adds a row, the newest. Nothing changes where memory is refused, or where the table has `MAX_ROWS` rows.
     pub fn insert(&mut self, atom: &Atom) -> Result<(), AllocError>
         ensures keys { self.new.keys ≡ self.old.keys }
         ensures orders { self.new.orders ≡ self.old.orders }
         ensures ok { OnOk result (self.new.rows ≡ self.old.rows ++ Some atom.now ∷ []) }
         ensures err { OnErr result (self.new.rows ≡ self.old.rows) }
-        ensures err_ranked { OnErr result (self.new.ranks ≡ self.old.ranks) }
     {
         if self.atoms.len() >= MAX_ROWS {
             return Err(AllocError);

@@ -11,7 +11,6 @@ pub mod OneList
 pub mod TooMany
 pub mod ConstantLists
 pub mod BesideFirst
-pub mod Spread
 pub mod Ways
 pub mod Steps
 pub mod Members

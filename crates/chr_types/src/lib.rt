@@ -5,7 +5,6 @@
 //! visits them one after the other.
 #![tactic(auto)]
 
-mod bounds;
 mod candidates;
 mod counting;
 mod fault;

@@ -1,11 +1,11 @@
 //! All order types.
-ghost use Rattle.std.specs.Prelude.{◌≡◌, ◌<◌, ◌≤◌, IfOk, IfErr, vec_len};
+ghost use Rattle.std.specs.Prelude.{◌≡◌, ◌<◌, ◌≤◌, ◌^◌, ℤ, List, IfOk, IfErr, vec_len};
+ghost use Rattle.std.specs.Bool.{OnTrue};
 ghost use Rattle.chr_types.specs.OrderTypes.{Rises, MoreTypesThan};
 ghost use Rattle.chr_types.specs.Representatives.{AreTypes};
 ghost use Rattle.chr_types.specs.declared.fault.TypesFault.TheVariants.{TooManyTypes};
 ghost use Rattle.chr_types.specs.Refusals.{WhereTooMany};
 
-use crate::bounds::{are_many, has_more_lists};
 use crate::candidates::all_candidates;
 use crate::fault::TypesFault;
 use crate::order_type::OrderType;
@@ -15,6 +15,31 @@ use std::alloc::Global;
 /// The greatest number of classes whose order types can be within a limit. Of more classes there are more than any
 /// limit: each class but the first can be equal to it or greater.
 pub const MAX_CLASSES: usize = 64;
+
+/// Whether there are more lists of `length` values out of `values` than `limit`.
+pub(crate) fn has_more_lists(values: usize, length: usize, limit: usize) -> bool
+    ensures { OnTrue result (limit < values ^ length) }
+{
+    let mut lists: usize = 1;
+    for _place in 0..length {
+        lists = lists.saturating_mul(values);
+    }
+    lists > limit
+}
+
+/// Less, equal and greater.
+const COMPARISONS: usize = 3;
+
+/// Whether `classes` classes have more order types than `limit`, whatever the constants, since each class but the first
+/// may be less than it, equal to it or greater.
+pub(crate) fn are_many(classes: usize, limit: usize) -> bool
+    ensures { OnTrue result ((constants : List ℤ) → MoreTypesThan limit classes constants) }
+{
+    match classes.checked_sub(1) {
+        Some(others) => has_more_lists(COMPARISONS, others, limit),
+        None => false,
+    }
+}
 
 /// All order types of `classes` classes among the constants, each by its representative, in lexicographic order.
 ///

@@ -23,11 +23,8 @@ struct Places {
     waiting: Vec<Mutex<Option<Lease>>>,
     // What came of each part, once it was rested.
     results: Vec<Mutex<Option<Rested>>>,
-    // Each part has a place for its lease.
     ghost all_wait: { vec_len waiting ≡ claims.parts },
-    // Each part has a place for its result.
     ghost all_result: { vec_len results ≡ claims.parts },
-    // There are at most `MAX_PARTS` parts.
     ghost few: { claims.parts ≤ MAX_PARTS },
 }
 

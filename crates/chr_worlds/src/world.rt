@@ -99,8 +99,8 @@ impl World {
         self.program().weighed();
     }
 
-    /// Lets an event happen. What a replica refuses is an answer, and leaves the world as it was. A `settle` that want
-    /// of memory stopped is an answer, too, and its steps stand. What the event tells is copied once, into the replica.
+    /// Lets an event happen. What a replica refuses is an answer, and leaves the world as it was; so is a `settle` that
+    /// was stopped, whose steps stand. The event is read: what is told is copied once, into the replica.
     ///
     /// # Errors
     /// Where memory is refused to any event but a `settle`. The world is as it was.

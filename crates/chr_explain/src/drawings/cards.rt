@@ -43,7 +43,7 @@ fn step_text(alloc: Global, source: NamedProgram<'_>, step: &Step) -> Result<Str
     text.finish()
 }
 
-/// The card of an end, before which `more` steps are not told.
+/// The card of an end after so many steps that are not told.
 fn last_card(
     alloc: Global,
     source: NamedProgram<'_>,

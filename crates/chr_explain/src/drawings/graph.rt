@@ -24,13 +24,12 @@ pub(crate) fn node_with(name: Prose, text: Prose, more: Prose) -> Result<Node, A
 
 /// An edge.
 pub(crate) struct Edge {
-    /// The place of the node at which it begins, counted from 0.
+    /// The places of its nodes, counted from 0.
     pub from: usize,
-    /// The place of the node at which it ends, counted from 0.
     pub to: usize,
     /// What it says.
     pub text: String,
-    /// What it says, in a few characters.
+    /// The same in a few characters.
     pub mark: String,
 }
 
@@ -47,11 +46,8 @@ pub(crate) enum Meaning {
 
 /// What is drawn.
 pub(crate) struct Graph {
-    /// What the edges say.
     pub meaning: Meaning,
-    /// The nodes, in the order in which they are drawn.
     pub nodes: Vec<Node>,
-    /// The edges between them.
     pub edges: Vec<Edge>,
     /// Whether what is told of the program is to stand below, since the nodes and edges don't say all of it.
     pub has_words: bool,

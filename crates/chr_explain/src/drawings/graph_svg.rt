@@ -25,22 +25,16 @@ struct Layout {
     slope: usize,
 }
 
-/// The way of an edge, with its mark.
+/// The way of an edge: the heights of its two ends, how far it goes to the right, and its mark.
 #[derive(Drop)]
 struct Arc<'g> {
-    /// The edge that goes this way.
     edge: &'g Edge,
-    /// The height at which it begins.
     from: usize,
-    /// The height at which it ends.
     to: usize,
-    /// How far its handles are to the right of its ends.
     reach: usize,
-    /// Its mark, empty where marks don't stand beside the edges.
+    /// Empty where marks don't stand beside the edges.
     mark: &'g str,
-    /// How far from the left the mark begins.
     mark_x: usize,
-    /// The height of the mark.
     mark_y: usize,
 }
 
@@ -122,8 +116,7 @@ fn least_reach(layout: Layout, edge: &Edge) -> usize {
         .saturating_add(up)
 }
 
-/// The way of an edge with this reach. Its mark stands at the middle of the curve, which is three quarters as far to
-/// the right as its handles.
+/// The way of an edge that goes so far, with its mark at the middle: a curve's is three quarters as far as its handles.
 fn arc_of<'g>(layout: Layout, edge: &'g Edge, mark: &'g str, reach: usize) -> Arc<'g> {
     let from = middle(edge.from).saturating_add(4);
     let to = middle(edge.to).saturating_sub(4);

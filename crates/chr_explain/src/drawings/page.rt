@@ -134,7 +134,7 @@ fn push_words(out: &mut Prose, told: &str) {
     out.push_str("</pre>\n</section>\n")
 }
 
-/// Adds all that is told, in words that are shut until a reader opens them: the page has shown it.
+/// Adds the same, to be opened: the page has shown it.
 fn push_shut_words(out: &mut Prose, told: &str) {
     out.push_str("<details>\n<summary>As text</summary>\n<pre class=\"told\" tabindex=\"0\">");
     push_html(out, told);

@@ -13,11 +13,8 @@ use std::alloc::Global;
 struct Side<'a> {
     /// The name of its nodes.
     name: &'static str,
-    /// The steps from the case's store to the end.
     derivation: &'a Derivation,
-    /// The stores after the first of these steps.
     stores: &'a [Bag],
-    /// The store at which the steps end.
     end: &'a Bag,
 }
 

@@ -13,13 +13,9 @@ pub(crate) const MARGIN: usize = 8;
 /// A box.
 #[derive(Clone, Copy)]
 pub(crate) struct Frame {
-    /// How far its left side is from the drawing's.
     pub x: usize,
-    /// How far its top is from the drawing's.
     pub y: usize,
-    /// How wide it is.
     pub width: usize,
-    /// How high it is.
     pub height: usize,
 }
 
@@ -29,8 +25,7 @@ pub(crate) fn width_of(text: &str) -> usize {
     text.chars().take(most).count().saturating_mul(CHARACTER)
 }
 
-/// Adds the beginning of a drawing of this size. Words tell those who don't see it that there are `count` of what
-/// `subject` names.
+/// Adds the beginning of a drawing of this size, with what it is for those who don't see it: so many of these.
 pub(crate) fn push_svg(out: &mut Prose, width: usize, height: usize, count: usize, subject: &str) {
     out.push_number("<svg viewBox=\"0 0 ", width as u64, " ");
     out.push_number("", height as u64, "\"");

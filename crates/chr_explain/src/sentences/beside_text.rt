@@ -48,7 +48,7 @@ fn push_example(
     Ok(())
 }
 
-/// What stands before the next of `count` names, `told` of which have been told.
+/// What stands before one of so many names, of which some have been told.
 fn before_name(told: usize, count: usize) -> &'static str {
     if told == 0 {
         ""

@@ -8,13 +8,9 @@ use std::alloc::{AllocError, Global};
 /// Two rules, or a rule twice, with the numbers of their overlaps and of the cases of these.
 #[derive(Clone, Copy, Debug, PartialEq, Eq)]
 pub(crate) struct ToldPair {
-    /// The number of the first rule, counted from 1.
     pub first: u32,
-    /// The number of the second rule, counted from 1.
     pub second: u32,
-    /// How many overlaps the two have.
     pub overlaps: usize,
-    /// How many cases these overlaps have together.
     pub cases: usize,
 }
 

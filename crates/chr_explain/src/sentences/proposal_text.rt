@@ -44,7 +44,6 @@ const NONE_KEPT: &str = "Of the small stores that were tried none is kept by thi
 struct Choice<'a> {
     /// The names in the text of the program.
     names: &'a Names,
-    /// The case that fails.
     peak: &'a Peak,
     /// The small stores among which one is looked for that a proposal alone keeps.
     small: &'a SmallStores,

@@ -3,7 +3,7 @@ use Rattle.std.specs.Prelude.{ℕ, ◌+◌, ◌-◌, List, [], ◌∷◌, Bool, 
 use Rattle.std.specs.List.{prefix_len}
 use Rattle.chr_syntax.specs.Bytes.{is_stop}
 
--- how many bytes there are up to the full stop of this number, or at all where there are fewer full stops
+-- how many bytes there are up to so many full stops, or at all where there are fewer
 abbrev pub after_stops : ℕ → List ℕ → ℕ
 after_stops stops [] = 0
 after_stops stops (b ∷ bs) =

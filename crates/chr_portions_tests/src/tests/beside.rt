@@ -35,7 +35,6 @@ fn put(index: &mut Index, row: &Row) -> Result<(), AllocError> {
     if index.len() < 1_000_000 {
         index.reserve(1)?;
         index.push(row.hash, row.first, row.second);
-        index.tidy();
     }
     Ok(())
 }

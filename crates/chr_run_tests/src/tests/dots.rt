@@ -4,7 +4,6 @@ ghost use Rattle.std.specs.Io.KnownBytes.{Appends};
 ghost use Rattle.chr_device.specs.Devices.{inner_of, has_failed};
 ghost use Rattle.chr_run_tests.specs.Dots.{dots, dots_join};
 
-use super::SIZES;
 use chr_device::{RunFault, Watched};
 use chr_run::{Machine, answer_at_end};
 use std::alloc::{AllocError, Global};
@@ -73,7 +72,7 @@ fn write_dots<R: Read, W: Write>(
     ensures { OnOk result (IfSome (R.remaining (inner_of reader.old)) (λ input.
         Appends (W.contents (inner_of writer.old)) (W.contents (inner_of writer.new)) (dots input))) }
 {
-    answer_at_end(rt, alloc, SIZES, &mut Dots, reader, writer)
+    answer_at_end(rt, alloc, &mut Dots, reader, writer)
 }
 
 #[test]

@@ -3,7 +3,7 @@ use super::INPUT;
 use super::lengths::Lengths;
 use super::wires::{Line, Sips};
 use chr_device::Watched;
-use chr_run::{Anywhere, BlockSizes, Blocks, Cut, HoldsAll, OneRead, SendsPromptly, answer};
+use chr_run::{Anywhere, Blocks, Cut, HoldsAll, OneRead, SendsPromptly, answer};
 use std::alloc::Global;
 use std::process::Abort;
 use std::sync::Wait;
@@ -35,11 +35,7 @@ fn held_by<C: Cut + Drop>(rt: &(impl Abort + Wait), alloc: Global, cut: C, size:
         rest: INPUT,
         most: 3,
     });
-    let sizes = BlockSizes {
-        first: size,
-        most: 8,
-    };
-    let mut source = Blocks::new(alloc, cut, sizes);
+    let mut source = Blocks::new(alloc, cut, size, 8);
     let mut held = String::from_str(alloc, "here\n").expect(rt, "memory");
     let mut batch = Vec::new(alloc);
     answer(

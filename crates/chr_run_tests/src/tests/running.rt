@@ -2,27 +2,22 @@
 
 use super::lengths::Lengths;
 use super::wires::Sips;
-use super::{INPUT, OUTPUT, SIZES, STOPPED, STOPS};
+use super::{INPUT, OUTPUT, STOPPED, STOPS};
 use chr_device::testing::{Drips, FailsAt};
 use chr_device::{RunFault, Watched};
-use chr_run::{BlockSizes, answer_at_end};
+use chr_run::answer_at_end;
 use std::alloc::Global;
 use std::io::Read;
 use std::process::Abort;
 use std::sync::Wait;
 
-/// What is written for what a reader gives in blocks of these sizes, and the reader afterwards.
-fn written<R: Read>(
-    rt: &(impl Abort + Wait),
-    alloc: Global,
-    sizes: BlockSizes,
-    reader: R,
-) -> (Vec<u8>, R) {
+/// What is written for what a reader gives, and the reader afterwards.
+fn written<R: Read>(rt: &(impl Abort + Wait), alloc: Global, reader: R) -> (Vec<u8>, R) {
     let mut machine = Lengths::new();
     let mut reader = Watched::of(reader);
     let room = Vec::with_capacity(alloc, 64).expect(rt, "memory");
     let mut writer = Watched::of(room);
-    answer_at_end(rt, alloc, sizes, &mut machine, &mut reader, &mut writer).expect(rt, "a run");
+    answer_at_end(rt, alloc, &mut machine, &mut reader, &mut writer).expect(rt, "a run");
     (writer.into_inner(), reader.into_inner())
 }
 
@@ -31,24 +26,9 @@ fn written<R: Read>(
 fn lines_are_answered_however_they_come(rt: HostRuntime) {
     let alloc = rt.alloc();
     for most in [1, 2, 5, 4_096] {
-        let (text, reader) = written(&rt, alloc, SIZES, Sips { rest: INPUT, most });
+        let (text, reader) = written(&rt, alloc, Sips { rest: INPUT, most });
         assert!(rt; text.as_slice() == OUTPUT, "{most} a read");
         assert!(rt; reader.rest.is_empty(), "{most} a read");
-    }
-}
-
-/// Blocks of no bytes and of more bytes at first than at most serve, too.
-#[test]
-fn lines_are_answered_in_blocks_of_any_size(rt: HostRuntime) {
-    let alloc = rt.alloc();
-    for (first, most) in [(0, 0), (0, 3), (64, 1), (usize::MAX, usize::MAX)] {
-        let sips = Sips {
-            rest: INPUT,
-            most: 2,
-        };
-        let (text, reader) = written(&rt, alloc, BlockSizes { first, most }, sips);
-        assert!(rt; text.as_slice() == OUTPUT, "{first} to {most} bytes");
-        assert!(rt; reader.rest.is_empty(), "{first} to {most} bytes");
     }
 }
 
@@ -57,7 +37,7 @@ fn lines_are_answered_in_blocks_of_any_size(rt: HostRuntime) {
 fn a_run_reads_to_the_end(rt: HostRuntime) {
     let alloc = rt.alloc();
     for most in [1, 4_096] {
-        let (text, reader) = written(&rt, alloc, SIZES, Sips { rest: STOPS, most });
+        let (text, reader) = written(&rt, alloc, Sips { rest: STOPS, most });
         assert!(rt; text.as_slice() == STOPPED, "{most} a read");
         assert!(rt; reader.rest.is_empty(), "{most} a read");
     }
@@ -76,7 +56,7 @@ fn failed(rt: &(impl Abort + Wait), alloc: Global, read: u64, write: u64) -> (Ve
     ));
     let room = Vec::with_capacity(alloc, 64).expect(rt, "memory");
     let mut writer = Watched::of(FailsAt::of(Drips::of(room), write));
-    let result = answer_at_end(rt, alloc, SIZES, &mut machine, &mut reader, &mut writer);
+    let result = answer_at_end(rt, alloc, &mut machine, &mut reader, &mut writer);
     assert!(rt;
         result == Err(RunFault::Device),
         "call {read} of reading, {write} of writing"

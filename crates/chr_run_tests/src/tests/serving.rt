@@ -2,7 +2,7 @@
 
 use super::lengths::Lengths;
 use super::wires::Line;
-use super::{INPUT, MOST_HELD, OUTPUT, STOPPED, STOPS};
+use super::{INPUT, OUTPUT, STOPPED, STOPS};
 use chr_device::RunFault;
 use chr_run::answer_promptly;
 use std::alloc::Global;
@@ -14,7 +14,7 @@ fn served<'a>(rt: &(impl Abort + Wait), alloc: Global, input: &'a [u8], most: us
     let mut machine = Lengths::new();
     let room = Vec::with_capacity(alloc, 64).expect(rt, "memory");
     let mut wire = Line::new(input, most, 0, room);
-    answer_promptly(rt, alloc, MOST_HELD, &mut machine, &mut wire).expect(rt, "a service");
+    answer_promptly(rt, alloc, &mut machine, &mut wire).expect(rt, "a service");
     wire
 }
 
@@ -47,7 +47,7 @@ fn cut_off(
     let mut machine = Lengths::new();
     let room = Vec::with_capacity(alloc, 64).expect(rt, "memory");
     let mut wire = Line::new(INPUT, 4, call, room);
-    let result = answer_promptly(rt, alloc, MOST_HELD, &mut machine, &mut wire);
+    let result = answer_promptly(rt, alloc, &mut machine, &mut wire);
     (result, wire.sent, wire.failed)
 }
 

@@ -32,12 +32,6 @@ finder_rows (Chained index) = map (option_map hashed) index.rows
 finder_rows (Ranged column index) = map (option_map ranged) index.rows
 finder_rows (Crossed first second index) = map (option_map crossed) index.rows
 
--- The rank of each row. Without values in two columns the rank of a row is its number, which needs no list.
-abbrev pub ranks_in : Finder → List ℕ
-ranks_in (Chained index) = []
-ranks_in (Ranged column index) = []
-ranks_in (Crossed first second index) = index.ranks
-
 -- how many rows there is room for
 abbrev pub room_in : Finder → ℕ
 room_in (Chained index) = index.room

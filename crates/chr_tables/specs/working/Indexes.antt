@@ -7,7 +7,7 @@ use Rattle.chr_base.specs.declared.atom.Atom.{Atom}
 use Rattle.chr_base.specs.working.Codes.{coded_atom}
 use Rattle.chr_plans.specs.Keys.{key_of}
 use Rattle.chr_tables.specs.Hashes.{key_hash}
-use Rattle.chr_tables.specs.working.Finders.{Found, order_in, finder_rows, room_in, ranks_in}
+use Rattle.chr_tables.specs.working.Finders.{Found, order_in, finder_rows, room_in}
 use Rattle.chr_tables.specs.declared.indexes.Keyed.{Keyed}
 use Rattle.chr_tables.specs.Contents.{Contents}
 
@@ -63,10 +63,6 @@ key_columns ks = map (λ w. w.columns) (ways_of ks)
 abbrev pub orders_of : List Keyed → List (List ℕ)
 orders_of ks = map (λ w. w.order) (ways_of ks)
 
--- the ranks of the rows by each index
-abbrev pub keyed_ranks : List Keyed → List (List ℕ)
-keyed_ranks ks = map (λ k. ranks_in k.index) ks
-
 abbrev pub rooms_of : List Keyed → List ℕ
 rooms_of ks = map (λ k. room_in k.index) ks
 
@@ -82,12 +78,9 @@ pub record IsTable (atoms : List Atom) (alive : List Bool) (dead : ℕ) (indexes
   pub few : length atoms < 2 ^ 32
   pub indexed : AreIndexed (live atoms alive) (ways_of indexes) (keyed_entries indexes)
 
-abbrev pub coded_columns : Coded (List (List ℕ))
-coded_columns = coded_list (coded_list coded_ℕ)
-
 abbrev pub contents_code : Coded Contents
 contents_code =
-    code_by (List (Option Atom) × (List (List ℕ) × (List (List ℕ) × List (List ℕ))))
-    (coded× (coded_list (coded_option coded_atom)) (coded× coded_columns (coded× coded_columns coded_columns)))
-    (λ c. (c.rows, (c.keys, (c.orders, c.ranks))))
-    (λ p. record { rows = p.0; keys = p.1.0; orders = p.1.1.0; ranks = p.1.1.1 }) (λ _. refl)
+    code_by (List (Option Atom) × (List (List ℕ) × List (List ℕ)))
+    (coded× (coded_list (coded_option coded_atom))
+    (coded× (coded_list (coded_list coded_ℕ)) (coded_list (coded_list coded_ℕ))))
+    (λ c. (c.rows, (c.keys, c.orders))) (λ p. record { rows = p.0; keys = p.1.0; orders = p.1.1 }) (λ _. refl)

@@ -1,7 +1,6 @@
-use Rattle.std.proofs.Common.{◌<◌, length, arith}
+use Rattle.std.proofs.Common.{◌<◌, length, refl, arith}
 use Rattle.chr_plans.specs.Seats.{seat}
-use Rattle.chr_columns.proofs.Stored.{row_there, kill_rows, kill_keys, kill_ranks, kill_many, same_columns}
-use Rattle.chr_columns.proofs.Stored.{same_ranks}
+use Rattle.chr_columns.proofs.Stored.{row_there, kill_rows, kill_keys, kill_many, same_columns}
 use Rattle.chr_columns.proofs.rested.kill_all.Goals as goal
 
 pub loop-seat-preserved : goal.loop-seat-preserved
@@ -21,8 +20,6 @@ loop-seat-preserved c =
           c.kill.ensures.keys c.loop-seat.invariant.rows;
       keys = kill_keys ts us ss i x y c.loop-seat-test.true within c.index_mut.ensures.value c.kill.ensures.rows
           c.kill.ensures.keys c.loop-seat.invariant.keys;
-      ranks = kill_ranks ts us ss i x y c.loop-seat-test.true within c.index_mut.ensures.value c.kill.ensures.rows
-          c.kill.ensures.keys c.kill.ensures.ranks c.loop-seat.invariant.ranks;
       many = kill_many ts us ss i x y c.loop-seat-test.true within c.index_mut.ensures.value c.kill.ensures.rows
           c.kill.ensures.keys c.loop-seat.invariant.many;
     }
@@ -31,4 +28,4 @@ pub returns-clause-columns : goal.returns-clause-columns
 returns-clause-columns c = same_columns _ _ c.loop-seat.invariant.keys
 
 pub returns-clause-ranks : goal.returns-clause-ranks
-returns-clause-ranks c = same_ranks _ _ c.loop-seat.invariant.ranks
+returns-clause-ranks c = refl

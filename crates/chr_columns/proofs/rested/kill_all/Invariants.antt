@@ -9,7 +9,5 @@ abbrev pub invariant-loop-seat : goal.invariant-loop-seat
 invariant-loop-seat l = record {
   rows : grid l.tables.tables.items ≡ without_rows (grid l.fn.tables.tables.items) (take l.seat-index l.seats);
   keys : map (λ (c : Contents). c.keys) l.tables.tables.items ≡ map (λ (c : Contents). c.keys) l.fn.tables.tables.items;
-  ranks : map (λ (c : Contents). c.ranks) l.tables.tables.items
-      ≡ map (λ (c : Contents). c.ranks) l.fn.tables.tables.items;
   many : AsMany l.tables.tables.items l.fn.tables.tables.items;
 }

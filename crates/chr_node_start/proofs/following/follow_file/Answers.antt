@@ -11,6 +11,11 @@ returns-in_err-take_next g c =
     hears_then g.D.Disk.seen g.H.Holder.operations g.H.Holder.program c.args.node.now c.loop.node c.take_next.new.node
     c.loop.invariant c.take_next.ensures
 
+pub returns-in_err-from_str-in-Left : goal.returns-in_err-from_str-in-Left
+returns-in_err-from_str-in-Left g c =
+    hears_then g.D.Disk.seen g.H.Holder.operations g.H.Holder.program c.args.node.now c.loop.node c.take_next.new.node
+    c.loop.invariant c.take_next.ensures
+
 pub loop-preserved : goal.loop-preserved
 loop-preserved g c =
     hears_then g.D.Disk.seen g.H.Holder.operations g.H.Holder.program c.args.node.now c.loop.node c.take_next.new.node

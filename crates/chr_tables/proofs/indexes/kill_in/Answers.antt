@@ -2,9 +2,7 @@ use Rattle.std.proofs.Common.{[], set, refl, sym, ap, ◌∙◌, arith}
 use Rattle.std.specs.Prelude.{None}
 use Rattle.std.proofs.lemmas.List.{length-set}
 use Rattle.std.proofs.Math.Seq.{map-set_same}
-use Rattle.chr_tables.specs.working.Finders.{ranks_in}
 use Rattle.chr_tables.specs.working.Indexes.{way_of}
-use Rattle.chr_tables.specs.declared.indexes.Keyed.{Keyed}
 use Rattle.chr_tables.proofs.Walks.{done_more, left_more}
 use Rattle.chr_tables.proofs.Lives.{entries_at, entries_set, length_entries, same_way}
 use Rattle.chr_tables.proofs.indexes.kill_in.Goals as goal
@@ -20,8 +18,6 @@ loop-i-preserved c =
       len = length-set c.loop-i.indexes _ _ ∙ c.loop-i.invariant.len;
       ways = map-set_same way_of c.loop-i.indexes c.loop-i.i _ c.index-indexes-i.result
           (same_way _ _ refl refl c.kill.ensures.order) ∙ c.loop-i.invariant.ways;
-      ranks = map-set_same (λ (k : Keyed). ranks_in k.index) c.loop-i.indexes c.loop-i.i _ c.index-indexes-i.result
-          c.kill.ensures.ranks ∙ c.loop-i.invariant.ranks;
       done = λ j h. (rw (entries_set c.loop-i.indexes c.loop-i.i)
           (done_more _ _ [] c.loop-i.i _ (λ _ xs. set xs c.args.row None)
           (omega (arith, n, g, len)) c.loop-i.invariant.done

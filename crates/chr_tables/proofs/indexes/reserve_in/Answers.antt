@@ -3,7 +3,7 @@ use Rattle.std.proofs.lemmas.List.{length-set, get_or-set_other, get_or-set_same
 use Rattle.std.proofs.lemmas.Bool.{cases_lt}
 use Rattle.std.proofs.Math.Seq.{map-set_same}
 use Rattle.chr_tables.specs.working.Indexes.{way_of, keyed_entries, rooms_of}
-use Rattle.chr_tables.specs.working.Finders.{finder_rows, ranks_in, room_in}
+use Rattle.chr_tables.specs.working.Finders.{finder_rows, room_in}
 use Rattle.chr_tables.specs.declared.indexes.Keyed.{Keyed}
 use Rattle.chr_tables.proofs.Lives.{entries_at, rooms_set, length_rooms, same_way}
 use Rattle.chr_tables.proofs.indexes.reserve_in.Goals as goal
@@ -25,10 +25,6 @@ pub returns-in_err-reserve-clause-rows : goal.returns-in_err-reserve-clause-rows
 returns-in_err-reserve-clause-rows c = map-set_same (λ (k : Keyed). finder_rows k.index) c.loop-i.indexes c.loop-i.i _
     c.index-indexes-i.result c.in_err-reserve.ensures.rows ∙ c.loop-i.invariant.rows
 
-pub returns-in_err-reserve-clause-ranks : goal.returns-in_err-reserve-clause-ranks
-returns-in_err-reserve-clause-ranks c = map-set_same (λ (k : Keyed). ranks_in k.index) c.loop-i.indexes c.loop-i.i _
-    c.index-indexes-i.result c.in_err-reserve.ensures.ranks ∙ c.loop-i.invariant.ranks
-
 pub loop-i-preserved : goal.loop-i-preserved
 loop-i-preserved c =
     let g = c.loop-i-test.true in
@@ -43,8 +39,6 @@ loop-i-preserved c =
           (same_way _ _ refl refl c.in_ok-reserve.ensures.order) ∙ c.loop-i.invariant.ways;
       rows = map-set_same (λ (k : Keyed). finder_rows k.index) c.loop-i.indexes c.loop-i.i _ c.index-indexes-i.result
           c.in_ok-reserve.ensures.rows ∙ c.loop-i.invariant.rows;
-      ranks = map-set_same (λ (k : Keyed). ranks_in k.index) c.loop-i.indexes c.loop-i.i _ c.index-indexes-i.result
-          c.in_ok-reserve.ensures.ranks ∙ c.loop-i.invariant.ranks;
       done = λ j h. (rw (rooms_set c.loop-i.indexes c.loop-i.i)
           (elim (cases_lt j c.loop-i.i) as (λ _. length (get_or (keyed_entries c.args.indexes.now) j []) < get_or
           (set (rooms_of c.loop-i.indexes) c.loop-i.i (room_in c.reserve.new.self)) j 0) [

@@ -34,7 +34,7 @@ returns-in_err-insert-clause-rested c =
     let w = has_table _ _ _ c.args.atom.now c.tidy.ensures.rested.set_up in
     let same = set_same c.tidy.new.self.tables.tables.items c.args.table c.index_mut.result.now
     c.insert.new.self (omega (arith, t, w)) c.index_mut.ensures.value c.in_err-insert.ensures.err
-    c.insert.ensures.keys c.insert.ensures.orders c.in_err-insert.ensures.err_ranked in
+    c.insert.ensures.keys c.insert.ensures.orders in
     record {
       set_up = subst (λ (ts : List Contents). IsSetUp c.tidy.new.self.rules.items c.tidy.new.self.directory.groups.items
           (rows_of ts) (index_columns ts) (length ts)) (sym same) c.tidy.ensures.rested.set_up;
@@ -50,7 +50,7 @@ returns-in_err-insert-clause-err c =
     on_err _ c.from_residual.result
     (ap (λ (ts : List Contents). contents (grid ts)) (set_same c.tidy.new.self.tables.tables.items
     c.args.table c.index_mut.result.now c.insert.new.self (omega (arith, t, w)) c.index_mut.ensures.value
-    c.in_err-insert.ensures.err c.insert.ensures.keys c.insert.ensures.orders c.in_err-insert.ensures.err_ranked)
+    c.in_err-insert.ensures.err c.insert.ensures.keys c.insert.ensures.orders)
     ∙ c.tidy.ensures.stored)
 
 pub returns-clause-ok : goal.returns-clause-ok

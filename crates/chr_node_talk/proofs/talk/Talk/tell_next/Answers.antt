@@ -14,7 +14,6 @@ returns-in-Ok-New-clause-answers g c = λ n expected.
         origin = new.0.0;
         number = new.0.1;
         absent = new.1.0;
-        room = c.if-not-has_room.ensures.room;
         operations = new.1.1;
         last = c.tell.ensures.last is;
         shown = refl;
@@ -38,7 +37,7 @@ returns-in-Err-clause-stays g c =
 
 pub returns-in-Ok-Again-clause-refused : goal.returns-in-Ok-Again-clause-refused
 returns-in-Ok-Again-clause-refused g c =
-    inr (inl (refl, c.tell.ensures.again (c.in-Ok-Again.is ∙ ap Ok c.in-Ok-Again.field-0-is)))
+    inr (refl, c.tell.ensures.again (c.in-Ok-Again.is ∙ ap Ok c.in-Ok-Again.field-0-is))
 
 pub returns-in-Err-clause-refused : goal.returns-in-Err-clause-refused
 returns-in-Err-clause-refused g c = inl (c.in-Err.refusal, c.in-Err.ensures.refused, c.line_refusal.ensures)

@@ -1,7 +1,6 @@
 use Rattle.std.proofs.Common.{ℕ, ◌<◌, ◌≤◌}
 use Rattle.chr_indexes.specs.HashedRows.{HasHash}
 use Rattle.chr_indexes.specs.RangedRows.{IsWanted, IsCrossed}
-use Rattle.chr_portions.specs.RankedPairs.{rank_of}
 use Rattle.chr_tables.specs.working.Finders.{IsFinderRow}
 use Rattle.chr_tables.specs.declared.finder.Finder.TheVariants.{Chained, Ranged, Crossed}
 use Rattle.chr_tables.proofs.Choices.{if_some, if_none}
@@ -15,27 +14,21 @@ returns-in-Chained-clause-met c =
     (λ row. IsFinderRow (Chained c.in-Chained.index) c.args.hash c.args.span.now row) c.next.result
     (λ row w. chained_found c.in-Chained.index c.args.hash c.args.span.now row w) c.next.ensures.live)
 
-pub returns-in-Chained-clause-below : goal.returns-in-Chained-clause-below
-returns-in-Chained-clause-below c =
-    rw c.in-Chained.is c.next.ensures.below
-
-pub returns-in-Chained-clause-greatest : goal.returns-in-Chained-clause-greatest
-returns-in-Chained-clause-greatest c =
-    rw c.in-Chained.is (if_some
-    (λ row. (other : ℕ) → other < c.args.row → HasHash c.in-Chained.index.rows c.args.hash other → other ≤ row)
-    (λ row. (other : ℕ) → other < c.args.row
-    → IsFinderRow (Chained c.in-Chained.index) c.args.hash c.args.span.now other → other ≤ row)
-    c.next.result
-    (λ row greatest other below s. greatest other below
-    (found_chained c.in-Chained.index c.args.hash c.args.span.now other s))
-    c.next.ensures.newest)
+pub returns-in-Chained-clause-newest : goal.returns-in-Chained-clause-newest
+returns-in-Chained-clause-newest c =
+    rw c.in-Chained.is (if_some (λ row. (other : ℕ) → other < c.args.row
+    → (HasHash c.in-Chained.index.rows c.args.hash other) → other ≤ row)
+    (λ row. (other : ℕ) → other < c.args.row → (IsFinderRow (Chained c.in-Chained.index) c.args.hash c.args.span.now
+    other) → other ≤ row) c.next.result
+    (λ row newest other below s. newest other below (found_chained c.in-Chained.index c.args.hash c.args.span.now other
+    s)) c.next.ensures.newest)
 
 pub returns-in-Chained-clause-none : goal.returns-in-Chained-clause-none
 returns-in-Chained-clause-none c =
-    rw c.in-Chained.is (if_none
-    ((other : ℕ) → other < c.args.row → ¬ (HasHash c.in-Chained.index.rows c.args.hash other))
-    ((other : ℕ) → other < c.args.row → ¬ (IsFinderRow
-    (Chained c.in-Chained.index) c.args.hash c.args.span.now other)) c.next.result
+    rw c.in-Chained.is (if_none ((other : ℕ) → other < c.args.row
+    → ¬ (HasHash c.in-Chained.index.rows c.args.hash other))
+    ((other : ℕ) → other < c.args.row → ¬ (IsFinderRow (Chained c.in-Chained.index) c.args.hash c.args.span.now
+    other)) c.next.result
     (λ none other below s. none other below (found_chained c.in-Chained.index c.args.hash c.args.span.now other s))
     c.next.ensures.none)
 
@@ -47,12 +40,8 @@ returns-in-Ranged-clause-met c =
     (λ row w. ranged_found c.in-Ranged.column c.in-Ranged.index c.args.hash c.args.span.now c.range_for.result row
     c.range_for.ensures.narrow w) c.next-in-Ranged.ensures.wanted)
 
-pub returns-in-Ranged-clause-below : goal.returns-in-Ranged-clause-below
-returns-in-Ranged-clause-below c =
-    rw c.in-Ranged.is c.next-in-Ranged.ensures.below
-
-pub returns-in-Ranged-clause-greatest : goal.returns-in-Ranged-clause-greatest
-returns-in-Ranged-clause-greatest c =
+pub returns-in-Ranged-clause-newest : goal.returns-in-Ranged-clause-newest
+returns-in-Ranged-clause-newest c =
     rw c.in-Ranged.is (if_some (λ row. (other : ℕ) → other < c.args.row
     → (IsWanted c.in-Ranged.index.rows c.args.hash c.range_for.result other) → other ≤ row)
     (λ row. (other : ℕ) → other < c.args.row → (IsFinderRow (Ranged c.in-Ranged.column c.in-Ranged.index)
@@ -72,42 +61,31 @@ returns-in-Ranged-clause-none c =
 pub returns-in-Crossed-clause-met : goal.returns-in-Crossed-clause-met
 returns-in-Crossed-clause-met c =
     rw c.in-Crossed.is (if_some (λ row. IsCrossed c.in-Crossed.index.rows c.args.hash c.range_for-first.result
-    c.range_for-in-Crossed.result row)
-    (λ row. IsFinderRow (Crossed c.in-Crossed.first c.in-Crossed.second c.in-Crossed.index) c.args.hash
-    c.args.span.now row) c.next-in-Crossed.result
+    c.range_for-in-Crossed.result row) (λ row. IsFinderRow
+    (Crossed c.in-Crossed.first c.in-Crossed.second c.in-Crossed.index) c.args.hash c.args.span.now row)
+    c.next-in-Crossed.result
     (λ row w. crossed_found c.in-Crossed.first c.in-Crossed.second c.in-Crossed.index c.args.hash c.args.span.now
     c.range_for-first.result c.range_for-in-Crossed.result row c.range_for-first.ensures.narrow
     c.range_for-in-Crossed.ensures.narrow w) c.next-in-Crossed.ensures.crossed)
 
-pub returns-in-Crossed-clause-below : goal.returns-in-Crossed-clause-below
-returns-in-Crossed-clause-below c =
-    rw c.in-Crossed.is c.next-in-Crossed.ensures.below
-
-pub returns-in-Crossed-clause-greatest : goal.returns-in-Crossed-clause-greatest
-returns-in-Crossed-clause-greatest c =
-    rw c.in-Crossed.is (if_some
-    (λ row. (other : ℕ) → rank_of c.in-Crossed.index.ranks other < rank_of c.in-Crossed.index.ranks c.args.row
-    → IsCrossed c.in-Crossed.index.rows c.args.hash c.range_for-first.result c.range_for-in-Crossed.result other
-    → rank_of c.in-Crossed.index.ranks other ≤ rank_of c.in-Crossed.index.ranks row)
-    (λ row. (other : ℕ) → rank_of c.in-Crossed.index.ranks other < rank_of c.in-Crossed.index.ranks c.args.row
-    → IsFinderRow (Crossed c.in-Crossed.first c.in-Crossed.second c.in-Crossed.index) c.args.hash c.args.span.now
-    other → rank_of c.in-Crossed.index.ranks other ≤ rank_of c.in-Crossed.index.ranks row)
-    c.next-in-Crossed.result
-    (λ row greatest other below s. greatest other below
-    (found_crossed c.in-Crossed.first c.in-Crossed.second c.in-Crossed.index c.args.hash c.args.span.now
-    c.range_for-first.result c.range_for-in-Crossed.result other c.range_for-first.ensures.wide
-    c.range_for-in-Crossed.ensures.wide s))
-    c.next-in-Crossed.ensures.greatest)
+pub returns-in-Crossed-clause-newest : goal.returns-in-Crossed-clause-newest
+returns-in-Crossed-clause-newest c =
+    rw c.in-Crossed.is (if_some (λ row. (other : ℕ) → other < c.args.row
+    → (IsCrossed c.in-Crossed.index.rows c.args.hash c.range_for-first.result c.range_for-in-Crossed.result other)
+    → other ≤ row) (λ row. (other : ℕ) → other < c.args.row
+    → (IsFinderRow (Crossed c.in-Crossed.first c.in-Crossed.second c.in-Crossed.index) c.args.hash c.args.span.now
+    other) → other ≤ row) c.next-in-Crossed.result
+    (λ row newest other below s. newest other below (found_crossed c.in-Crossed.first c.in-Crossed.second
+    c.in-Crossed.index c.args.hash c.args.span.now c.range_for-first.result c.range_for-in-Crossed.result other
+    c.range_for-first.ensures.wide c.range_for-in-Crossed.ensures.wide s)) c.next-in-Crossed.ensures.newest)
 
 pub returns-in-Crossed-clause-none : goal.returns-in-Crossed-clause-none
 returns-in-Crossed-clause-none c =
-    rw c.in-Crossed.is (if_none
-    ((other : ℕ) → rank_of c.in-Crossed.index.ranks other < rank_of c.in-Crossed.index.ranks c.args.row
-    → ¬ (IsCrossed c.in-Crossed.index.rows c.args.hash c.range_for-first.result c.range_for-in-Crossed.result other))
-    ((other : ℕ) → rank_of c.in-Crossed.index.ranks other < rank_of c.in-Crossed.index.ranks c.args.row
-    → ¬ (IsFinderRow (Crossed c.in-Crossed.first c.in-Crossed.second c.in-Crossed.index) c.args.hash c.args.span.now
-    other)) c.next-in-Crossed.result
+    rw c.in-Crossed.is (if_none ((other : ℕ) → other < c.args.row
+    → ¬ (IsCrossed c.in-Crossed.index.rows c.args.hash c.range_for-first.result c.range_for-in-Crossed.result
+    other)) ((other : ℕ) → other < c.args.row → ¬ (IsFinderRow
+    (Crossed c.in-Crossed.first c.in-Crossed.second c.in-Crossed.index) c.args.hash c.args.span.now other))
+    c.next-in-Crossed.result
     (λ none other below s. none other below (found_crossed c.in-Crossed.first c.in-Crossed.second c.in-Crossed.index
     c.args.hash c.args.span.now c.range_for-first.result c.range_for-in-Crossed.result other
-    c.range_for-first.ensures.wide c.range_for-in-Crossed.ensures.wide s))
-    c.next-in-Crossed.ensures.none)
+    c.range_for-first.ensures.wide c.range_for-in-Crossed.ensures.wide s)) c.next-in-Crossed.ensures.none)

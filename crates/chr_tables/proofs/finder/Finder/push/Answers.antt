@@ -12,7 +12,7 @@ returns-in-Crossed-clause-rows c =
     let fits : SFits w64 c.argument-in-Crossed.result = search rules in
     let fits_too : SFits w64 c.argument-in-Crossed-2.result = search rules in
     rw c.in-Crossed.is
-    (ap (map (option_map crossed)) (c.tidy.ensures.rows ∙ c.push-in-Crossed.ensures.rows)
+    (ap (map (option_map crossed)) c.push-in-Crossed.ensures.rows
     ∙ map-append (option_map crossed) c.in-Crossed.index.rows _
     ∙ (λ i. map (option_map crossed) c.in-Crossed.index.rows ++ Some (record {
       hash = c.args.hash;

@@ -1,15 +1,13 @@
 use Rattle.std.proofs.Common.{◌≡◌, ℕ, ◌<◌, ◌≤◌, [], length, get_or, slice_get, refl, sym, ap, ◌∙◌, arith}
 use Rattle.std.specs.Prelude.{None, IsTrue, is_some}
 use Rattle.chr_plans.specs.Rows.{HasKey, LiesIn}
-use Rattle.chr_portions.specs.RankedPairs.{rank_of}
 use Rattle.chr_tables.specs.Contents.{LiesBy}
 use Rattle.chr_tables.specs.declared.indexes.Keyed.{Keyed}
-use Rattle.chr_tables.specs.working.Finders.{finder_rows, ranks_in, IsFinderRow}
+use Rattle.chr_tables.specs.working.Finders.{finder_rows, IsFinderRow}
 use Rattle.chr_tables.specs.working.Indexes.{orders_of, no_way, way_of, key_columns, ways_of, keyed_entries, live}
-use Rattle.chr_tables.specs.working.Indexes.{keyed_ranks}
 use Rattle.chr_tables.proofs.Choices.{if_some, if_none}
 use Rattle.chr_tables.proofs.Keys.{lies, met, sought}
-use Rattle.chr_tables.proofs.Lives.{entries_at, ranks_at, way_at, length_ways, length_columns}
+use Rattle.chr_tables.proofs.Lives.{entries_at, way_at, length_ways, length_columns}
 use Rattle.chr_tables.proofs.table.Table.first.Goals as goal
 
 pub returns-clause-lives : goal.returns-clause-lives
@@ -55,8 +53,8 @@ returns-clause-within c =
     c.key_hash-hash.result c.self.invariant.indexed l here this c.key_hash-hash.ensures c.args.span.now refl)
     c.first.ensures.met)
 
-pub returns-clause-greatest : goal.returns-clause-greatest
-returns-clause-greatest c =
+pub returns-clause-newest : goal.returns-clause-newest
+returns-clause-newest c =
     let n = length_ways c.self.inside.indexes.items in
     let m = length_columns c.self.inside.indexes.items in
     let k = ap (λ t. length t.keys) c.self.view_is in
@@ -69,25 +67,16 @@ returns-clause-greatest c =
     let this : get_or (ways_of c.self.inside.indexes.items) c.args.index no_way ≡ way_of c.index_mut-keyed.result.now =
     way_at c.self.inside.indexes.items c.args.index c.index_mut-keyed.result.now b
     ∙ ap way_of (sym c.index_mut-keyed.ensures.value) in
-    let ranks : ranks_in c.index_mut-keyed.result.now.index
-    ≡ get_or (keyed_ranks c.self.inside.indexes.items) c.args.index [] =
-    sym (ranks_at c.self.inside.indexes.items c.args.index c.index_mut-keyed.result.now b
-    ∙ ap (λ (x : Keyed). ranks_in x.index) (sym c.index_mut-keyed.ensures.value)) in
-    rw (c.row_of.ensures, ← c.self.view_is, ← ranks)
-    (if_some (λ row. (other : ℕ) → IsFinderRow c.index_mut-keyed.result.now.index c.key_hash-hash.result
-    c.args.span.now other
-    → rank_of (ranks_in c.index_mut-keyed.result.now.index) other ≤ rank_of
-    (ranks_in c.index_mut-keyed.result.now.index) row)
-    (λ row. (other : ℕ) → HasKey (slice_get (key_columns c.self.inside.indexes.items) c.args.index)
-    c.args.key.now (get_or (live c.self.inside.atoms c.self.inside.alive.items) other None)
-    → LiesIn c.args.span.now (get_or (live c.self.inside.atoms c.self.inside.alive.items) other None)
-    → rank_of (ranks_in c.index_mut-keyed.result.now.index) other ≤ rank_of
-    (ranks_in c.index_mut-keyed.result.now.index) row)
+    rw (c.row_of.ensures, ← c.self.view_is)
+    (if_some (λ row. (other : ℕ) → IsFinderRow c.index_mut-keyed.result.now.index c.key_hash-hash.result c.args.span.now
+    other → other ≤ row)
+    (λ row. (other : ℕ) → HasKey (slice_get (key_columns c.self.inside.indexes.items) c.args.index) c.args.key.now
+    (get_or (live c.self.inside.atoms c.self.inside.alive.items) other None)
+    → LiesIn c.args.span.now (get_or (live c.self.inside.atoms c.self.inside.alive.items) other None) → other ≤ row)
     c.first.result
-    (λ row greatest other h s. greatest other
-    (sought _ _ _ c.args.index c.index_mut-keyed.result.now.index (way_of c.index_mut-keyed.result.now)
-    c.args.key.now c.key_hash-hash.result c.self.invariant.indexed l here this c.key_hash-hash.ensures
-    c.args.span.now refl other h s)) c.first.ensures.greatest)
+    (λ row newest other h s. newest other (sought _ _ _ c.args.index c.index_mut-keyed.result.now.index
+    (way_of c.index_mut-keyed.result.now) c.args.key.now c.key_hash-hash.result c.self.invariant.indexed l here this
+    c.key_hash-hash.ensures c.args.span.now refl other h s)) c.first.ensures.newest)
 
 pub returns-clause-none : goal.returns-clause-none
 returns-clause-none c =

@@ -8,14 +8,9 @@ at_or_below-requires c = index_there c.args.self.now.tables.items c.args.table c
 pub returns-clause-greatest : goal.returns-clause-greatest
 returns-clause-greatest c =
     rw (← table_is c.args.self.now.tables.items c.args.table c.args.index c.index_mut.result.now c.requires
-    c.index_mut.ensures.value) c.at_or_below.ensures.greatest
+    c.index_mut.ensures.value) c.at_or_below.ensures.newest
 
 pub returns-clause-none : goal.returns-clause-none
 returns-clause-none c =
     rw (← table_is c.args.self.now.tables.items c.args.table c.args.index c.index_mut.result.now c.requires
     c.index_mut.ensures.value) c.at_or_below.ensures.none
-
-pub returns-clause-at_or_below : goal.returns-clause-at_or_below
-returns-clause-at_or_below c =
-    rw (← table_is c.args.self.now.tables.items c.args.table c.args.index c.index_mut.result.now c.requires
-    c.index_mut.ensures.value) c.at_or_below.ensures.at_or_below

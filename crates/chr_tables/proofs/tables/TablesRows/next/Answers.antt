@@ -8,7 +8,7 @@ next-requires c = index_there c.args.self.now.tables.items c.args.table c.args.i
 pub returns-clause-greatest : goal.returns-clause-greatest
 returns-clause-greatest c =
     rw (← table_is c.args.self.now.tables.items c.args.table c.args.index c.index_mut.result.now c.requires
-    c.index_mut.ensures.value) c.next.ensures.greatest
+    c.index_mut.ensures.value) c.next.ensures.newest
 
 pub returns-clause-none : goal.returns-clause-none
 returns-clause-none c =
@@ -16,11 +16,4 @@ returns-clause-none c =
     c.index_mut.ensures.value) c.next.ensures.none
 
 pub returns-clause-own_ranks : goal.returns-clause-own_ranks
-returns-clause-own_ranks c =
-    rw (← table_is c.args.self.now.tables.items c.args.table c.args.index c.index_mut.result.now c.requires
-    c.index_mut.ensures.value) (λ n m live lives same. c.next.ensures.own_ranks n m same)
-
-pub returns-clause-below : goal.returns-clause-below
-returns-clause-below c =
-    rw (← table_is c.args.self.now.tables.items c.args.table c.args.index c.index_mut.result.now c.requires
-    c.index_mut.ensures.value) c.next.ensures.below
+returns-clause-own_ranks c = λ n m live lives same. same

@@ -1,6 +1,6 @@
 use Rattle.std.proofs.Common.{◌≡◌, ℕ, suc, ◌+◌, ◌*◌, ◌-◌, sym, ap, ◌∙◌, arith}
 use Rattle.chr_types.specs.working.Counting.{most_types}
-use Rattle.chr_types.proofs.bounds.+most_types.Goals as goal
+use Rattle.chr_types.proofs.counting.+most_types.Goals as goal
 
 one_class_more : (n k d m x y : ℕ) → n ≡ suc k → m ≡ d + 1 → x ≡ most_types (n - 1) d → y ≡ most_types (n - 1) m
     → d * x + m * y ≡ most_types n d
